@@ -1,0 +1,7 @@
+pub mod Tests
+pub mod Reaches
+pub mod Walks
+pub mod Stores
+pub mod Signed
+pub mod Tables
+pub mod Words

@@ -1,0 +1,85 @@
+-- Laws of runs of bytes: an index into the text against the rest that starts there. By induction on the rest. Assumes nothing.
+use mathlib.Core.Path.{_≡_, refl, ap, sym, _∙_}
+use mathlib.Core.Bool.{Bool, true, false}
+use mathlib.Core.List.{List, [], _∷_}
+use Prim.Native.Nat.{ℕ, zero, suc, _+_, _-_, _≤_, _<_, zero-le, suc-le-suc}
+use native.Mathlib.Nat.{add-zero, le-of-suc-le-suc, not-suc-le-zero, add-assoc}
+use native.Mathlib.Numerals.{add-one}
+use native.Mathlib.Omega.{arith}
+use lib.ListN.{length, take, drop, length-drop, drop-of-length-le}
+use lib.Seq.{drop-cons, getD-drop, take-all}
+use Rattle.base.specs.Choice.{pick}
+use Rattle.base.specs.Bytes.{byte}
+use Rattle.base.specs.Runs.{run, reach}
+use Rattle.base.proofs.Tests.{pick-le}
+
+module _ (p : ℕ → ℕ → Bool) where
+  pub run-le : (s : List ℕ) → run p s ≤ length s
+  unfolding run
+  run-le [] = zero-le
+  run-le (a ∷ s) = pick-le (p a (byte s 0)) (suc-le-suc (run-le s)) zero-le
+
+module _ (p : ℕ → ℕ → Bool) (s : List ℕ) (i : ℕ) where
+  -- the rest from i, as a byte and the rest from i + 1
+  cut : i < length s → drop i s ≡ byte s i ∷ drop (i + 1) s
+  cut h = rw (add-one, drop-cons s i 0)
+
+  next-byte : byte (drop (i + 1) s) 0 ≡ byte s (i + 1)
+  next-byte = rw (getD-drop, add-zero)
+
+  -- where the byte at i passes, the run from i + 1 has the same end
+  pub reach-step : i < length s → p (byte s i) (byte s (i + 1)) ≡ true → reach p s (i + 1) ≡ reach p s i
+  unfolding reach run
+  reach-step h e =
+      let q : run p (drop i s) ≡ suc (run p (drop (i + 1) s)) = rw (cut h, next-byte, e) in
+      omega arith
+
+  -- where it fails, the run from i ends
+  pub reach-stop : i < length s → p (byte s i) (byte s (i + 1)) ≡ false → reach p s i ≡ i
+  unfolding reach run
+  reach-stop h e =
+      let q : run p (drop i s) ≡ 0 = rw (cut h, next-byte, e) in
+      omega arith
+
+  -- and so it does at the end of the text
+  pub reach-end : length s ≤ i → reach p s i ≡ i
+  unfolding reach run
+  reach-end h =
+      let q : run p (drop i s) ≡ 0 = rw (drop-of-length-le s h) in
+      omega arith
+
+  -- a byte that passes is in the run
+  pub reach-one : i < length s → p (byte s i) (byte s (i + 1)) ≡ true → i + 1 ≤ reach p s i
+  unfolding reach
+  reach-one h e = omega (arith, reach-step h e)
+
+  pub reach-ge : i ≤ reach p s i
+  unfolding reach
+  reach-ge = omega arith
+
+  pub reach-le : i ≤ length s → reach p s i ≤ length s
+  unfolding reach
+  reach-le h = omega (arith, run-le p (drop i s), length-drop i s)
+
+-- where a run ends before the end of the text, the byte there fails
+run-fails : (p : ℕ → ℕ → Bool) (s : List ℕ) → run p s < length s → p (byte s (run p s)) (byte s (run p s + 1)) ≡ false
+unfolding run
+run-fails p [] h = absurd (not-suc-le-zero h)
+run-fails p (a ∷ s) h = go (p a (byte s 0)) refl h (run-fails p s)
+  where
+    go : (b : Bool) → p a (byte s 0) ≡ b → pick b (suc (run p s)) 0 < suc (length s)
+        → (run p s < length s → p (byte s (run p s)) (byte s (run p s + 1)) ≡ false)
+        → p (byte (a ∷ s) (pick b (suc (run p s)) 0)) (byte (a ∷ s) (pick b (suc (run p s)) 0 + 1)) ≡ false
+    go true q l ih = rw (add-one (suc (run p s))) (rw add-one at (ih (le-of-suc-le-suc l)))
+    go false q l ih = q
+
+pub reach-fails : (p : ℕ → ℕ → Bool) (s : List ℕ) (i : ℕ) → reach p s i < length s
+    → p (byte s (reach p s i)) (byte s (reach p s i + 1)) ≡ false
+unfolding reach
+reach-fails p s i h =
+    let f = run-fails p (drop i s) (omega (arith, length-drop i s)) in
+    rw (add-assoc, ← getD-drop i s (run p (drop i s)) 0, ← getD-drop i s (run p (drop i s) + 1) 0) f
+
+-- a part of a slice from i to the end, as the code has it, is the rest from i
+pub rest-is : (s : List ℕ) (i : ℕ) → take (length s - i) (drop i s) ≡ drop i s
+rest-is s i = take-all (length s - i) (drop i s) (omega (arith, length-drop i s))

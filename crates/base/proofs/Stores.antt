@@ -1,0 +1,60 @@
+-- Stores into lists, one element after the other: two runs of stores are one, and a copy is a run of stores. Assumes nothing.
+use mathlib.Core.Path.{_≡_, refl, sym, ap, _∙_}
+use mathlib.Core.List.{List, [], _∷_, _++_}
+use Prim.Native.Nat.{ℕ, zero, suc, _+_, _≤_, _<_, _-_}
+use native.Mathlib.Nat.{add-zero, sub-zero, zero-add, add-suc, suc-add}
+use native.Mathlib.Omega.{arith}
+use lib.ListN.{length, set, take, drop, getD, drop-of-length-le}
+use lib.Seq.{sets, sets-eq, drop-cons}
+use Rattle.base.specs.Buffers.{overlay}
+
+module _ {A : Type 0} where
+  -- two runs of stores are one
+  pub sets-append : (l : List A) (i : ℕ) (vs ws : List A) → sets l i (vs ++ ws) ≡ sets (sets l i vs) (i + length vs) ws
+  sets-append l i [] ws = rw add-zero
+  sets-append l i (v ∷ vs) ws =
+      sets-append (set l i v) (suc i) vs ws
+      ∙ ap (λ (k : ℕ). sets (sets (set l i v) (suc i) vs) k ws) (suc-add i (length vs) ∙ sym (add-suc i (length vs)))
+
+  -- a run of stores from the front is the values, and then the rest as it was
+  pub overlaid : (vs l : List A) → length vs ≤ length l → sets l 0 vs ≡ overlay vs l
+  overlaid vs l h = sets-eq vs l 0 (omega arith) ∙ simp zero-add
+
+-- a copy element by element: what is left to copy, stored from here on. `z` is what `getD` gives past the end.
+module _ {A : Type 0} (z : A) where
+  abbrev pub copying : List A → ℕ → List A → ℕ → ℕ → ℕ → List A
+  copying d to s start size k = sets d (to + k) (take (size - k) (drop (start + k) s))
+
+  pub copy-start : (d : List A) (to : ℕ) (s : List A) (start size : ℕ) → copying d to s start size 0 ≡ sets d to (take size (drop start s))
+  copy-start d to s start size = simp (add-zero, sub-zero)
+
+  pub copy-turn : (d : List A) (to : ℕ) (s : List A) (start size k : ℕ) → k < size → start + size ≤ length s
+      → copying (set d (to + k) (getD s (start + k) z)) to s start size (k + 1) ≡ copying d to s start size k
+  copy-turn d to s start size k h r =
+      let e₁ : size - k ≡ suc (size - (k + 1)) = omega arith in
+      let e₂ : start + (k + 1) ≡ suc (start + k) = omega arith in
+      let e₃ : to + (k + 1) ≡ suc (to + k) = omega arith in
+      let i : start + k < length s = omega arith in
+      rw (e₁, e₂, e₃, drop-cons s (start + k) z i)
+
+  pub copy-end : (d : List A) (to : ℕ) (s : List A) (start size k : ℕ) → size ≤ k → copying d to s start size k ≡ d
+  copy-end d to s start size k h =
+      let e : size - k ≡ 0 = omega arith in
+      rw e
+
+-- the same of a whole list
+module _ {A : Type 0} (z : A) where
+  abbrev pub storing : List A → ℕ → List A → ℕ → List A
+  storing d to s k = sets d (to + k) (drop k s)
+
+  pub store-start : (d : List A) (to : ℕ) (s : List A) → storing d to s 0 ≡ sets d to s
+  store-start d to s = simp add-zero
+
+  pub store-turn : (d : List A) (to : ℕ) (s : List A) (k : ℕ) → k < length s → storing (set d (to + k) (getD s k z)) to s (k + 1) ≡ storing d to s k
+  store-turn d to s k h =
+      let e₂ : k + 1 ≡ suc k = omega arith in
+      let e₃ : to + suc k ≡ suc (to + k) = omega arith in
+      rw (e₂, e₃, drop-cons s k z h)
+
+  pub store-end : (d : List A) (to : ℕ) (s : List A) (k : ℕ) → length s ≤ k → storing d to s k ≡ d
+  store-end d to s k h = rw (drop-of-length-le s h)

@@ -1,0 +1,81 @@
+-- Laws of tests and choices, by cases on the Bool. Assumes nothing.
+use mathlib.Core.Path.{_≡_, refl}
+use mathlib.Core.Bool.{Bool, true, false, not, _&&_, _||_}
+use mathlib.Core.List.{List}
+use Prim.Native.Nat.{ℕ, _≤_, _<_, zero-le}
+use native.Mathlib.Omega.{arith}
+use borrow.Author.Tests.{le-leb, lt-leb, leb-true, leb-false, ltb-true, ltb-false}
+use lib.Dec.{T, leb, ltb}
+use lib.ListN.{length, List·getD-eq-default}
+use Rattle.base.specs.Choice.{pick}
+use Rattle.base.specs.Bytes.{byte, within}
+
+pub and-left : (a b : Bool) → a && b ≡ true → a ≡ true
+and-left true b e = refl
+and-left false b e = e
+
+pub and-right : (a b : Bool) → a && b ≡ true → b ≡ true
+and-right true b e = e
+and-right false b e = let z : false ≡ true = e in cc
+
+pub and-false : (b : Bool) → b && false ≡ false
+and-false true = refl
+and-false false = refl
+
+-- the same of tests as propositions
+pub both-left : (a b : Bool) → T (a && b) → T a
+both-left true b t = tt
+both-left false b t = t
+
+pub both-right : (a b : Bool) → T (a && b) → T b
+both-right true b t = t
+both-right false b t = absurd t
+
+pub or-case : {X : Type 0} (a b : Bool) → a || b ≡ true → (a ≡ true → X) → (b ≡ true → X) → X
+or-case true b e f g = f refl
+or-case false b e f g = g e
+
+pub or-false : (b : Bool) → b || false ≡ b
+or-false true = refl
+or-false false = refl
+
+-- no test is both true and false
+pub true-false : {X : Type 0} (b : Bool) → b ≡ true → b ≡ false → X
+true-false b p q = let z : _≡_ {A = ℕ} 0 1 = let w : true ≡ false = cc in cc in absurd (omega arith)
+
+-- a claim about a choice, from the claim in each case
+pub pick-case {ℓ} : {A : Type ℓ} (P : A → Type 0) (b : Bool) {x y : A} → (b ≡ true → P x) → (b ≡ false → P y) → P (pick b x y)
+pick-case P true f g = f refl
+pick-case P false f g = g refl
+
+pub pick-le : (b : Bool) {x y n : ℕ} → x ≤ n → y ≤ n → pick b x y ≤ n
+pick-le true h k = h
+pick-le false h k = k
+
+-- where a number stands to a range
+module _ (lo hi x : ℕ) where
+  pub inside : lo ≤ x → x ≤ hi → within lo hi x ≡ true
+  inside l h = simp (le-leb lo x l, le-leb x hi h)
+
+  pub under : x < lo → within lo hi x ≡ false
+  under h = simp (lt-leb lo x h)
+
+  pub over : hi < x → within lo hi x ≡ false
+  over h = rw (lt-leb x hi h) (and-false (leb lo x))
+
+  pub within-low : within lo hi x ≡ true → lo ≤ x
+  within-low e = leb-true lo x (and-left (leb lo x) (leb x hi) e)
+
+  pub within-high : within lo hi x ≡ true → x ≤ hi
+  within-high e = leb-true x hi (and-right (leb lo x) (leb x hi) e)
+
+-- a test that fails at 0 and passes at the byte at i: i is in the text
+pub in-text : (p : ℕ → Bool) (s : List ℕ) (i : ℕ) → p 0 ≡ false → p (byte s i) ≡ true → i < length s
+in-text p s i z e = go (ltb i (length s)) refl
+  where
+    go : (b : Bool) → ltb i (length s) ≡ b → i < length s
+    go true q = ltb-true i (length s) q
+    go false q =
+        let w : byte s i ≡ 0 = List·getD-eq-default s 0 (ltb-false i (length s) q) in
+        let f : true ≡ false = cc in
+        true-false true refl f

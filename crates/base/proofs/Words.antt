@@ -1,0 +1,34 @@
+-- The test whether two lists of bytes are equal, against their equality. Assumes nothing.
+use mathlib.Core.Path.{_≡_, refl, ap, sym, _∙_}
+use mathlib.Core.Bool.{Bool, true, false, _&&_}
+use mathlib.Core.List.{List, [], _∷_}
+use Prim.Native.Nat.{ℕ}
+use lib.Dec.{eqb}
+use borrow.Author.Tests.{eqb-true, eq-eqb}
+use Rattle.base.specs.Bytes.{sameBytes}
+use Rattle.base.proofs.Tests.{and-left, and-right}
+
+pub same-eq : (s t : List ℕ) → sameBytes s t ≡ true → s ≡ t
+unfolding sameBytes
+same-eq [] [] e = refl
+same-eq [] (b ∷ t) e = cc
+same-eq (a ∷ s) [] e = cc
+same-eq (a ∷ s) (b ∷ t) e =
+    let h = eqb-true a b (and-left (eqb a b) (sameBytes s t) e) in
+    let q = same-eq s t (and-right (eqb a b) (sameBytes s t) e) in
+    cc
+
+pub same-refl : (s : List ℕ) → sameBytes s s ≡ true
+unfolding sameBytes
+same-refl [] = refl
+same-refl (a ∷ s) = rw (eq-eqb a a refl, same-refl s)
+
+-- a test that is true exactly where two lists are equal is `sameBytes`
+pub same-test : (s t : List ℕ) (r : Bool) → (r ≡ true → s ≡ t) → (s ≡ t → r ≡ true) → r ≡ sameBytes s t
+same-test s t r to from = go r (sameBytes s t) refl refl
+  where
+    go : (x y : Bool) → r ≡ x → sameBytes s t ≡ y → r ≡ sameBytes s t
+    go true true p q = cc
+    go false false p q = cc
+    go true false p q = let e = to p in let z = same-refl s in cc
+    go false true p q = let e = from (same-eq s t q) in cc

@@ -1,0 +1,5 @@
+pub mod Choice
+pub mod Bytes
+pub mod Classes
+pub mod Runs
+pub mod Buffers

@@ -1,0 +1,51 @@
+// What every crate shares: bytes read from a slice, tests of bytes, and stores. The definitions and laws that all crates cite stand in
+// specs/ and proofs/.
+ghost use mathlib.Core.Path.{_≡_};
+ghost use Prim.Native.Nat.{_+_, _≤_, _<_};
+ghost use lib.ListN.{length, take, drop};
+ghost use lib.Seq.{sets};
+ghost use Rattle.base.specs.Bytes.{byte};
+
+pub mod class;
+
+// The byte at `k`, or 0 past the end.
+pub fn peek(s: &[u8], k: usize) -> u8
+    ensures { λ r. ⌜ r ≡ byte (now (s .entry)) k ⌝ }
+{
+    if k < s.len() {
+        return s[k];
+    }
+    0
+}
+
+// A byte as a 32-bit number.
+pub fn wide(b: u8) -> u32
+    ensures { λ r. ⌜ (r ≡ b) × (r < 256) ⌝ }
+{
+    b as u32
+}
+
+// Stores the numbers of `xs` from index `i` on.
+pub fn store(buf: &mut [i64], i: usize, xs: &[i64])
+    requires { ⌜ i + length (now xs) ≤ length (now buf) ⌝ }
+    ensures { λ r. ⌜ now (buf .exit) ≡ sets (now (buf .entry)) i (now (xs .entry)) ⌝ }
+{
+    let mut k = 0;
+    while k < xs.len() {
+        let x = xs[k];
+        buf[i + k] = x;
+        k += 1;
+    }
+}
+
+// Copies `size` bytes of `src` from `start` on to `dst` from `to` on.
+pub fn copy(dst: &mut [u8], to: usize, src: &[u8], start: usize, size: usize)
+    requires { ⌜ (to + size ≤ length (now dst)) × (start + size ≤ length (now src)) ⌝ }
+    ensures { λ r. ⌜ now (dst .exit) ≡ sets (now (dst .entry)) to (take size (drop start (now (src .entry)))) ⌝ }
+{
+    let mut k = 0;
+    while k < size {
+        dst[to + k] = src[start + k];
+        k += 1;
+    }
+}

@@ -1,0 +1,34 @@
+-- A token at the front of a text, by its numbers: document 01, "Places and records", relative to the token's start.
+use Prim.Native.Nat.{ℕ}
+use lib.IntN.{pos}
+use Rattle.token.specs.declared.kind.TokenKind.{TokenKind}
+use Rattle.token.specs.declared.kind.TokenKind.the-variants as K
+use Rattle.lexeme.specs.declared.Lexeme.{Lexeme}
+
+-- a token of n bytes with its value at v..v + size, and so many reports; "Unused numbers are 0"
+abbrev pub extent : TokenKind → ℕ → ℕ → ℕ → ℕ → Lexeme
+extent k n v size reports =
+    record { kind = k; reason = 0; detail = 0; len = n; value = v; size = size; precision = 0; digits = 0; nanos = pos 0; reports = reports }
+
+-- the token is its own value
+abbrev pub whole : TokenKind → ℕ → Lexeme
+whole k n = extent k n 0 n 0
+
+-- a token without a value: "an empty value other than a String's has its place at the token's end"
+abbrev pub bare : TokenKind → ℕ → Lexeme
+bare k n = extent k n n 0 0
+
+-- "Newline, Eof and Illegal values have length 0"
+abbrev pub illegal : ℕ → ℕ → ℕ → Lexeme
+illegal r d n =
+    record { kind = K.Illegal; reason = r; detail = d; len = n; value = n; size = 0; precision = 0; digits = 0; nanos = pos 0; reports = 0 }
+
+-- a report of a token: its reason, its detail, and how far behind the token's start it stands
+pub record Note : Type 0 where
+  pub reason : ℕ
+  pub detail : ℕ
+  pub offset : ℕ
+
+-- a report at the token's start
+abbrev pub noteAtStart : ℕ → Note
+noteAtStart r = record { reason = r; detail = 0; offset = 0 }

@@ -1,0 +1,101 @@
+-- Places as a fold over the bytes before them: two lists one after the other, one byte more, bounds, lines and columns. By induction on the
+-- list. Assumes nothing.
+use mathlib.Core.Path.{_≡_, refl, sym, ap, _∙_}
+use mathlib.Core.Bool.{Bool, true, false}
+use mathlib.Core.List.{List, [], _∷_, _++_}
+use Prim.Native.Nat.{ℕ, zero, suc, _+_, _≤_, _<_}
+use native.Mathlib.Numerals.{add-one}
+use native.Mathlib.Omega.{arith}
+use lib.ListN.{length, getD, take, drop}
+use lib.Seq.{take-suc, take-add, length-take-le}
+use lib.Dec.{eqb}
+use Rattle.base.specs.Choice.{pick}
+use Rattle.limits.specs.Limits.{maxMessageSize}
+use Rattle.token.specs.Place.{firstPlace, stepPlace, placeAfter, placeAt, newlines, sinceNewline, Bounded, Steppable}
+use Rattle.token.specs.declared.place.Place.{Place}
+
+-- the place after two lists is the place after the second from the place after the first
+pub after-append : (p : Place) (a b : List ℕ) → placeAfter p (a ++ b) ≡ placeAfter (placeAfter p a) b
+after-append p [] b = refl
+after-append p (x ∷ a) b = after-append (stepPlace p x) a b
+
+-- what a fold does to a place over n bytes
+pub record Moved (p q : Place) (n : ℕ) : Type 0 where
+  pub offset : q .offset ≡ p .offset + n
+  pub line : q .line ≤ p .line + n
+  pub column : q .column ≤ p .column + n
+
+-- the place after a byte, newline or not
+abbrev pub stepBy : Bool → Place → Place
+stepBy x p =
+    pick x (record { offset = p .offset + 1; line = p .line + 1; column = 1 })
+    (record { offset = p .offset + 1; line = p .line; column = p .column + 1 })
+
+moved-more : (x : Bool) (p q : Place) (n : ℕ) → Moved (stepBy x p) q n → Moved p q (suc n)
+moved-more true p q n w = record { offset = omega arith; line = omega arith; column = omega arith }
+moved-more false p q n w = record { offset = omega arith; line = omega arith; column = omega arith }
+
+pub moved : (p : Place) (l : List ℕ) → Moved p (placeAfter p l) (length l)
+moved p [] = record { offset = omega arith; line = omega arith; column = omega arith }
+moved p (b ∷ l) = moved-more (eqb b 0x0A) p (placeAfter (stepPlace p b) l) (length l) (moved (stepPlace p b) l)
+
+-- the line counts the newlines
+line-more : (x : Bool) (p : Place) (n m : ℕ) → m ≡ stepBy x p .line + n → m ≡ p .line + (pick x 1 0 + n)
+line-more true p n m e = omega arith
+line-more false p n m e = omega arith
+
+pub after-line : (p : Place) (l : List ℕ) → placeAfter p l .line ≡ p .line + newlines l
+after-line p [] = omega arith
+after-line p (b ∷ l) = line-more (eqb b 0x0A) p (newlines l) (placeAfter (stepPlace p b) l .line) (after-line (stepPlace p b) l)
+
+-- the column counts the bytes since the last newline, n of which stand before the list
+pub after-column : (p : Place) (n : ℕ) (l : List ℕ) → p .column ≡ 1 + n → placeAfter p l .column ≡ 1 + sinceNewline n l
+after-column p n [] e = e
+after-column p n (b ∷ l) e = go (eqb b 0x0A) (λ q m h. after-column q m l h)
+  where
+    go : (x : Bool) → ((q : Place) (m : ℕ) → q .column ≡ 1 + m → placeAfter q l .column ≡ 1 + sinceNewline m l)
+        → placeAfter (stepBy x p) l .column ≡ 1 + sinceNewline (pick x 0 (suc n)) l
+    go true ih = ih (stepBy true p) 0 refl
+    go false ih = ih (stepBy false p) (suc n) (omega arith)
+
+module _ (s : List ℕ) (i : ℕ) where
+  -- the place of the next offset is one step further
+  pub place-next : i < length s → placeAt s (i + 1) ≡ stepPlace (placeAt s i) (getD s i 0)
+  unfolding placeAt
+  place-next h = rw (add-one, take-suc s i 0 h) (after-append firstPlace (take i s) (getD s i 0 ∷ []))
+
+  -- the place n bytes further is the place after those bytes
+  pub place-add : (n : ℕ) → placeAt s (i + n) ≡ placeAfter (placeAt s i) (take n (drop i s))
+  unfolding placeAt
+  place-add n = rw (take-add i n s) (after-append firstPlace (take i s) (take n (drop i s)))
+
+  -- "line is one more than the newlines before"
+  pub place-line : placeAt s i .line ≡ 1 + newlines (take i s)
+  unfolding placeAt
+  place-line = after-line firstPlace (take i s)
+
+  -- "column is one more than the bytes since the last newline or the start"
+  pub place-column : placeAt s i .column ≡ 1 + sinceNewline 0 (take i s)
+  unfolding placeAt
+  place-column = after-column firstPlace 0 (take i s) refl
+
+  module _ (h : i ≤ length s) where
+    pub place-moved : Moved firstPlace (placeAt s i) i
+    unfolding placeAt
+    place-moved = rw (length-take-le i s h) at (moved firstPlace (take i s))
+
+    pub place-offset : placeAt s i .offset ≡ i
+    place-offset = let m = place-moved in omega arith
+
+    pub place-bounded : Bounded (placeAt s i)
+    place-bounded = let m = place-moved in record { line = omega arith; column = omega arith }
+
+-- a place of a text that is short enough, before its end, can be stepped, and the step is the next place
+module _ (s : List ℕ) (i : ℕ) (q : Place) (e : q ≡ placeAt s i) (h : i < length s) where
+  pub place-step : stepPlace q (getD s i 0) ≡ placeAt s (i + 1)
+  place-step = rw e (sym (place-next s i h))
+
+  pub place-steppable : length s ≤ maxMessageSize → Steppable q
+  place-steppable k =
+      let m : Moved firstPlace (placeAt s i) i = place-moved s i (omega arith) in
+      rw e (record { offset = omega arith; bounded = record { line = omega arith; column = omega arith } })

@@ -1,0 +1,4 @@
+// Token kinds, places in a text, and the numbers of records and reports (token.rs).
+pub mod kind;
+pub mod layout;
+pub mod place;

@@ -1,0 +1,57 @@
+// Places in a text.
+ghost use mathlib.Core.Path.{_≡_};
+ghost use Rattle.token.specs.Place.{firstPlace, stepPlace, placeAt, Steppable, Walkable};
+
+// A byte's offset, and the line and the column at which it stands. Columns count bytes.
+pub struct Place {
+    pub offset: usize,
+    pub line: usize,
+    pub column: usize,
+}
+
+impl Place {
+    // Where every text starts.
+    pub fn first() -> Self
+        ensures { λ r. ⌜ r ≡ firstPlace ⌝ }
+    {
+        Self {
+            offset: 0,
+            line: 1,
+            column: 1,
+        }
+    }
+
+    // The place after one byte. No sum wraps: a place of a text of at most 67,108,864 bytes that has a byte left is `Steppable`.
+    pub fn step(self, b: u8) -> Self
+        requires { ⌜ Steppable self ⌝ }
+        ensures { λ r. ⌜ r ≡ stepPlace self b ⌝ }
+    {
+        if b == b'\n' {
+            return Self {
+                offset: self.offset + 1,
+                line: self.line + 1,
+                column: 1,
+            };
+        }
+        Self {
+            offset: self.offset + 1,
+            line: self.line,
+            column: self.column + 1,
+        }
+    }
+}
+
+// The place of the offset `to`, from the place of an offset before it.
+pub fn walk(text: &[u8], from: Place, to: usize) -> Place
+    requires { ⌜ Walkable (now text) from to ⌝ }
+    ensures { λ r. ⌜ r ≡ placeAt (now (text .entry)) to ⌝ }
+{
+    let mut p = from;
+    let mut i = from.offset;
+    while i < to {
+        let b = text[i];
+        p = p.step(b);
+        i += 1;
+    }
+    p
+}

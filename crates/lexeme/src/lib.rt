@@ -1,7 +1,14 @@
 // What the lexers of all kinds answer: a token at the front of the rest of a text, with lengths and offsets relative to its start.
 ghost use mathlib.Core.Path.{_≡_};
+ghost use Prim.Native.Nat.{_+_, _≤_};
+ghost use lib.ListN.{length};
+ghost use lib.Seq.{sets};
+ghost use Rattle.token.specs.Layout.{reportWidth, reportNumbers, ReportFits};
 ghost use Rattle.lexeme.specs.Lexeme.{whole, bare, illegal, extent};
+ghost use Rattle.lexeme.specs.Reports.{reportAt};
 use token::kind::TokenKind;
+use token::layout::Report;
+use token::place::Place;
 
 // Strict reading refuses what is open or badly escaped; tolerant reading recovers and reports.
 pub enum Mode {
@@ -94,4 +101,20 @@ pub fn extent(kind: TokenKind, len: usize, value: usize, size: usize, reports: u
         nanos: 0,
         reports,
     }
+}
+
+// Stores a report that stands at a place.
+pub fn put_report(p: Place, reason: usize, detail: usize, out: &mut [i64], at: usize)
+    requires { ⌜ (at + reportWidth ≤ length (now out)) × ReportFits (reportAt p reason detail) ⌝ }
+    ensures { λ r. ⌜ now (out .exit) ≡ sets (now (out .entry)) at (reportNumbers (reportAt p reason detail)) ⌝ }
+{
+    let report = Report {
+        reason,
+        detail,
+        offset: p.offset,
+        line: p.line,
+        column: p.column,
+    };
+    let numbers = report.numbers();
+    base::store(out, at, &numbers);
 }

@@ -3,7 +3,7 @@ use mathlib.Core.Path.{_≡_, refl, ap, sym, _∙_}
 use mathlib.Core.Bool.{Bool, true, false}
 use mathlib.Core.List.{List, [], _∷_}
 use Prim.Native.Nat.{ℕ, zero, suc, _+_, _-_, _≤_, _<_, zero-le, suc-le-suc}
-use native.Mathlib.Nat.{add-zero, le-of-suc-le-suc, not-suc-le-zero, add-assoc}
+use native.Mathlib.Nat.{add-zero, zero-add, le-of-suc-le-suc, not-suc-le-zero, add-assoc}
 use native.Mathlib.Numerals.{add-one}
 use native.Mathlib.Omega.{arith}
 use lib.ListN.{length, take, drop, length-drop, drop-of-length-le}
@@ -83,3 +83,28 @@ reach-fails p s i h =
 -- a part of a slice from i to the end, as the code has it, is the rest from i
 pub rest-is : (s : List ℕ) (i : ℕ) → take (length s - i) (drop i s) ≡ drop i s
 rest-is s i = take-all (length s - i) (drop i s) (omega (arith, length-drop i s))
+
+-- each byte of a run passes
+run-all : (p : ℕ → ℕ → Bool) (s : List ℕ) (k : ℕ) → k < run p s → p (byte s k) (byte s (k + 1)) ≡ true
+unfolding run
+run-all p [] k h = absurd (not-suc-le-zero h)
+run-all p (a ∷ s) k h = go (p a (byte s 0)) refl k h (run-all p s)
+  where
+    go : (b : Bool) → p a (byte s 0) ≡ b → (k : ℕ) → k < pick b (suc (run p s)) 0
+        → ((j : ℕ) → j < run p s → p (byte s j) (byte s (j + 1)) ≡ true) → p (byte (a ∷ s) k) (byte (a ∷ s) (k + 1)) ≡ true
+    go true q zero l ih = q
+    go true q (suc k) l ih = rw (add-one (suc k)) (rw add-one at (ih k (le-of-suc-le-suc l)))
+    go false q k l ih = absurd (not-suc-le-zero l)
+
+pub reach-all : (p : ℕ → ℕ → Bool) (s : List ℕ) (i k : ℕ) → i ≤ k → k < reach p s i → p (byte s k) (byte s (k + 1)) ≡ true
+unfolding reach
+reach-all p s i k h l =
+    let f = run-all p (drop i s) (k - i) (omega arith) in
+    let e : i + (k - i) ≡ k = omega arith in
+    let e′ : i + (k - i + 1) ≡ k + 1 = omega arith in
+    rw (getD-drop i s (k - i) 0, getD-drop i s (k - i + 1) 0, e, e′) at f
+
+-- a run from i, as that of the rest
+pub reach-rest : (p : ℕ → ℕ → Bool) (s : List ℕ) (i : ℕ) → reach p s i ≡ i + reach p (drop i s) 0
+unfolding reach
+reach-rest p s i = rw (zero-add (run p (drop i s)))

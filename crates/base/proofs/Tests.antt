@@ -4,8 +4,8 @@ use mathlib.Core.Bool.{Bool, true, false, not, _&&_, _||_}
 use mathlib.Core.List.{List}
 use Prim.Native.Nat.{ℕ, _≤_, _<_, zero-le}
 use native.Mathlib.Omega.{arith}
-use borrow.Author.Tests.{le-leb, lt-leb, leb-true, leb-false, ltb-true, ltb-false}
-use lib.Dec.{T, leb, ltb}
+use borrow.Author.Tests.{le-leb, lt-leb, leb-true, leb-false, ltb-true, ltb-false, eqb-true, eqb-false}
+use lib.Dec.{T, leb, ltb, eqb}
 use lib.ListN.{length, List·getD-eq-default}
 use Rattle.base.specs.Choice.{pick}
 use Rattle.base.specs.Bytes.{byte, within}
@@ -17,6 +17,10 @@ and-left false b e = e
 pub and-right : (a b : Bool) → a && b ≡ true → b ≡ true
 and-right true b e = e
 and-right false b e = let z : false ≡ true = e in cc
+
+pub and-true : (b : Bool) → b && true ≡ b
+and-true true = refl
+and-true false = refl
 
 pub and-false : (b : Bool) → b && false ≡ false
 and-false true = refl
@@ -35,6 +39,14 @@ pub or-case : {X : Type 0} (a b : Bool) → a || b ≡ true → (a ≡ true → 
 or-case true b e f g = f refl
 or-case false b e f g = g e
 
+pub or-left : (a b : Bool) → a || b ≡ false → a ≡ false
+or-left true b e = e
+or-left false b e = refl
+
+pub or-right : (a b : Bool) → a || b ≡ false → b ≡ false
+or-right true b e = let z : true ≡ false = e in cc
+or-right false b e = e
+
 pub or-false : (b : Bool) → b || false ≡ b
 or-false true = refl
 or-false false = refl
@@ -42,6 +54,25 @@ or-false false = refl
 -- no test is both true and false
 pub true-false : {X : Type 0} (b : Bool) → b ≡ true → b ≡ false → X
 true-false b p q = let z : _≡_ {A = ℕ} 0 1 = let w : true ≡ false = cc in cc in absurd (omega arith)
+
+pub neither : (a b : Bool) → not (a || b) ≡ true → (a ≡ false) × (b ≡ false)
+neither true b e = true-false false e refl
+neither false true e = true-false false e refl
+neither false false e = (refl, refl)
+
+-- a choice of one thing alone
+pub pick-same {ℓ} : {A : Type ℓ} (b : Bool) (x : A) → pick b x x ≡ x
+pick-same true x = refl
+pick-same false x = refl
+
+-- a choice that is z is the other one, where one is not z
+pub pick-first {ℓ} : {A : Type ℓ} {x y z : A} (b : Bool) → (y ≡ z → ⊥) → pick b x y ≡ z → (b ≡ true) × (x ≡ z)
+pick-first true n e = (refl, e)
+pick-first false n e = absurd (n e)
+
+pub pick-second {ℓ} : {A : Type ℓ} {x y z : A} (b : Bool) → (x ≡ z → ⊥) → pick b x y ≡ z → (b ≡ false) × (y ≡ z)
+pick-second true n e = absurd (n e)
+pick-second false n e = (refl, e)
 
 -- a claim about a choice, from the claim in each case
 pub pick-case {ℓ} : {A : Type ℓ} (P : A → Type 0) (b : Bool) {x y : A} → (b ≡ true → P x) → (b ≡ false → P y) → P (pick b x y)
@@ -79,3 +110,24 @@ in-text p s i z e = go (ltb i (length s)) refl
         let w : byte s i ≡ 0 = List·getD-eq-default s 0 (ltb-false i (length s) q) in
         let f : true ≡ false = cc in
         true-false true refl f
+
+-- the test that a number is outside a range
+pub outside : (lo hi x : ℕ) → ltb x lo || ltb hi x ≡ not (within lo hi x)
+outside lo hi x = go (ltb x lo) (ltb hi x) refl refl
+  where
+    go : (a b : Bool) → ltb x lo ≡ a → ltb hi x ≡ b → a || b ≡ not (within lo hi x)
+    go true b p q = rw (under lo hi x (ltb-true x lo p))
+    go false true p q = rw (over lo hi x (ltb-true hi x q))
+    go false false p q = rw (inside lo hi x (ltb-false x lo p) (ltb-false hi x q))
+
+-- a range of one number
+pub within-one : (k x : ℕ) → within k k x ≡ eqb x k
+within-one k x = go (eqb x k) refl
+  where
+    go : (b : Bool) → eqb x k ≡ b → within k k x ≡ b
+    go true e = let q = eqb-true x k e in inside k k x (omega arith) (omega arith)
+    go false e = apart (ltb x k) refl
+      where
+        apart : (b : Bool) → ltb x k ≡ b → within k k x ≡ false
+        apart true l = under k k x (ltb-true x k l)
+        apart false l = let h = ltb-false x k l in let d = eqb-false x k e in over k k x (omega arith)

@@ -19,3 +19,8 @@ sameBytes [] [] = true
 sameBytes [] (b ∷ t) = false
 sameBytes (a ∷ s) [] = false
 sameBytes (a ∷ s) (b ∷ t) = eqb a b && sameBytes s t
+
+-- each byte of the list passes the test
+abbrev pub each : (ℕ → Bool) → List ℕ → Bool
+each t [] = true
+each t (b ∷ bs) = t b && each t bs

@@ -1,0 +1,24 @@
+-- `sign_size` is `signSize`: a test as a number is 1 or 0. Assumes nothing.
+use mathlib.Core.Path.{_≡_, refl}
+use mathlib.Core.Bool.{Bool, true, false, _||_}
+use lib.Dec.{eqb}
+use mir.Val.{boolByte}
+use borrow.Author.Needs.{needs}
+use Rattle.base.specs.Choice.{pick}
+use Rattle.go_duration.specs.Stages.{signSize}
+use Rattle.go_duration.proofs.parse.sign_size.Statement.{statement}
+use Rattle.go_duration.proofs.parse.sign_size.Tie as tie
+
+as-number : (t : Bool) → boolByte t ≡ pick t 1 0
+as-number true = refl
+as-number false = refl
+
+cast-result : tie.Need-cast-result
+cast-result c = search needs
+
+returns : tie.Need-returns
+unfolding signSize
+returns c = as-number (eqb (c .args .first) 45 || eqb (c .args .first) 43)
+
+pub sign-size-spec : {M : Type 1} → statement M
+sign-size-spec = tie.close (tie.spec cast-result returns)

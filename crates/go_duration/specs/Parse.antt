@@ -1,0 +1,107 @@
+-- `parse` of go_duration.rs on a list of bytes, with document 01's refusals: "number at most 2^63, unit, repeated".
+use mathlib.Core.Bool.{Bool, true, false, not, _&&_, _||_}
+use mathlib.Core.List.{List, [], _∷_}
+use Prim.Native.Nat.{ℕ, zero, suc, _+_, _-_, _*_}
+use lib.Dec.{ltb, eqb}
+use lib.IntN.{ℤ, pos, _-ℤ_}
+use lib.ListN.{length, take, drop}
+use Rattle.base.specs.Choice.{pick}
+use Rattle.base.specs.Bytes.{byte, sameBytes}
+use Rattle.base.specs.Classes.{isDigit}
+use Rattle.base.specs.Runs.{reach}
+use Rattle.go_duration.specs.Fraction.{most, fractionNanos}
+use Rattle.go_duration.specs.Units.{unitOf, valueOf}
+use Rattle.go_duration.specs.declared.part.Part.{Part}
+use Rattle.go_duration.specs.declared.part.Part.the-variants as part
+use Rattle.go_duration.specs.declared.parse.Total.{Total}
+use Rattle.go_duration.specs.declared.parse.Total.the-variants as total
+use Rattle.go_duration.specs.declared.parse.Parsed.{Parsed}
+use Rattle.go_duration.specs.declared.parse.Parsed.the-variants as parsed
+
+-- ---- one part, at the front of a list
+
+-- a digit; what follows it does not count
+abbrev pub inDigits : ℕ → ℕ → Bool
+inDigits a b = isDigit a
+
+-- "a unit, which runs to the next digit or point or to the end"
+abbrev pub inUnit : ℕ → ℕ → Bool
+inUnit a b = not (isDigit a || eqb a 46)
+
+-- the end of the digits of the whole number
+unfoldable pub wholeEnd : List ℕ → ℕ
+wholeEnd s = reach inDigits s 0
+
+-- whether a point stands there
+unfoldable pub hasPoint : List ℕ → Bool
+hasPoint s = eqb (byte s (wholeEnd s)) 46
+
+-- the start of the fraction's digits
+unfoldable pub fractionStart : List ℕ → ℕ
+fractionStart s = pick (hasPoint s) (wholeEnd s + 1) (wholeEnd s)
+
+-- the end of the fraction's digits; without a point there are none
+unfoldable pub fractionEnd : List ℕ → ℕ
+fractionEnd s = pick (hasPoint s) (reach inDigits s (wholeEnd s + 1)) (wholeEnd s)
+
+-- the end of the unit
+unfoldable pub unitEnd : List ℕ → ℕ
+unitEnd s = reach inUnit s (fractionEnd s)
+
+-- `leading_int`: the whole number
+unfoldable pub wholeOf : List ℕ → ℕ
+wholeOf s = valueOf (take (wholeEnd s) s)
+
+-- the unit's nanoseconds, or 0 where it is unknown or missing
+unfoldable pub partUnit : List ℕ → ℕ
+partUnit s = unitOf (take (unitEnd s - fractionEnd s) (drop (fractionEnd s) s))
+
+-- the nanoseconds of the fraction
+unfoldable pub partFraction : List ℕ → ℕ
+partFraction s = pick (hasPoint s) (fractionNanos (drop (wholeEnd s + 1) s) (partUnit s)) 0
+
+-- neither side of the point has a digit
+unfoldable pub digitless : List ℕ → Bool
+digitless s = eqb (wholeEnd s) 0 && eqb (fractionEnd s) (fractionStart s)
+
+-- the part's nanoseconds and its length; "Any product or sum above 2^63 is refused"
+unfoldable pub partOf : List ℕ → Part
+partOf s =
+    pick (digitless s) part.Bad
+    (pick (ltb most (wholeOf s)) part.Bad
+    (pick (eqb (partUnit s) 0) part.Bad
+    (pick (ltb most (wholeOf s * partUnit s)) part.Bad
+    (pick (ltb most (wholeOf s * partUnit s + partFraction s)) part.Bad
+    (part.Value (wholeOf s * partUnit s + partFraction s) (unitEnd s))))))
+
+-- ---- the parts, repeated
+
+abbrev pub follow : Part → ℕ → (ℕ → ℕ → Total) → Total
+follow part.Bad d f = total.Bad
+follow (part.Value v used) d f = pick (ltb most (d + v)) total.Bad (f (used - 1) (d + v))
+
+-- the sum of the parts, d being that of those before; k bytes at the front belong to a part that is counted already
+unfoldable pub sumFrom : ℕ → ℕ → List ℕ → Total
+sumFrom k d [] = total.Sum d
+sumFrom (suc k) d (x ∷ s) = sumFrom k d s
+sumFrom zero d (x ∷ s) = follow (partOf (x ∷ s)) d (λ k e. sumFrom k e s)
+
+-- ---- the whole run
+
+-- "The sign is put on the finished sum": 2^63 is allowed only under `-`
+abbrev pub signOf : Bool → ℕ → ℤ
+signOf neg d = pick neg (pos 0 -ℤ pos d) (pos d)
+
+unfoldable pub finish : Bool → Total → Parsed
+finish neg total.Bad = parsed.Bad
+finish neg (total.Sum d) = pick (neg || ltb d most) (parsed.Nanos (signOf neg d)) parsed.Bad
+
+-- the run after its sign
+unfoldable pub unsigned : List ℕ → List ℕ
+unsigned run = pick (eqb (byte run 0) 45 || eqb (byte run 0) 43) (drop 1 run) run
+
+-- "`0` alone is zero"; nothing is no duration
+unfoldable pub parseOf : List ℕ → Parsed
+parseOf run =
+    pick (sameBytes (unsigned run) (48 ∷ [])) (parsed.Nanos (pos 0))
+    (pick (eqb (length (unsigned run)) 0) parsed.Bad (finish (eqb (byte run 0) 45) (sumFrom 0 0 (unsigned run))))

@@ -1,0 +1,71 @@
+-- What the stages of `parse` answer, in the terms of Fraction and Parse: the contracts of the functions below it.
+use mathlib.Core.Path.{_≡_}
+use mathlib.Core.Bool.{Bool, _||_}
+use mathlib.Core.List.{List, [], _∷_}
+use Prim.Native.Nat.{ℕ, _+_, _*_}
+use lib.Dec.{ltb, eqb}
+use lib.IntN.{pos}
+use lib.ListN.{length, take, drop}
+use Rattle.base.specs.Choice.{pick}
+use Rattle.base.specs.Bytes.{byte, sameBytes}
+use Rattle.base.specs.Runs.{reach}
+use Rattle.go_duration.specs.Fraction.{most, scaleOf, Acc, acc, noDigits, readDigits, fracOf}
+use Rattle.go_duration.specs.Digits.{countOf}
+use Rattle.go_duration.specs.Units.{unitOf}
+use Rattle.go_duration.specs.Parse.{inUnit, wholeEnd, wholeOf, sumFrom, finish}
+use Rattle.go_duration.specs.declared.fraction.Fraction.{Fraction}
+use Rattle.go_duration.specs.declared.part.After.{After}
+use Rattle.go_duration.specs.declared.part.Part.{Part}
+use Rattle.go_duration.specs.declared.part.Part.the-variants as part
+use Rattle.go_duration.specs.declared.part.Whole.{Whole}
+use Rattle.go_duration.specs.declared.part.Whole.the-variants as whole
+use Rattle.go_duration.specs.declared.parse.Parsed.{Parsed}
+use Rattle.go_duration.specs.declared.parse.Parsed.the-variants as parsed
+
+-- ---- the digits of a fraction as the code has them
+
+-- "the scale is 1.0 multiplied k times by 10.0"
+abbrev pub fractionOf : Acc → Fraction
+fractionOf (acc f k n o) = record { f = f; kept = k; count = n; over = o; scale = scaleOf k }
+
+-- without the scale
+abbrev pub accOf : Fraction → Acc
+accOf d = acc (d .f) (d .kept) (d .count) (d .over)
+
+-- the digits are those that some text begins with
+pub record ReadOf (d : Fraction) : Type 0 where
+  pub text : List ℕ
+  pub same : d ≡ fractionOf (readDigits text noDigits)
+
+-- ---- one part
+
+-- `leading_int`: "number at most 2^63"
+unfoldable pub leadingInt : List ℕ → Whole
+leadingInt s = pick (ltb most (wholeOf s)) whole.Over (whole.Number (wholeOf s) (wholeEnd s))
+
+-- the fraction's digits, if a point stands at n, and where they end: "perhaps a point and digits or none after it"
+unfoldable pub fractionAt : ℕ → List ℕ → After
+fractionAt n s =
+    let a = readDigits (drop (n + 1) s) noDigits in
+    pick (eqb (byte s n) 46) (record { digits = fractionOf a; «end» = n + 1 + countOf a }) (record { digits = fractionOf noDigits; «end» = n })
+
+-- the part of the number w and the fraction a, for a unit of u nanoseconds that ends at e: "Any product or sum above 2^63 is refused"
+unfoldable pub nanosPart : ℕ → Acc → ℕ → ℕ → Part
+nanosPart w a u e =
+    pick (eqb u 0) part.Bad
+    (pick (ltb most (w * u)) part.Bad (pick (ltb most (w * u + fracOf a u)) part.Bad (part.Value (w * u + fracOf a u) e)))
+
+-- the same for the unit that stands at i
+unfoldable pub unitPart : ℕ → Acc → ℕ → List ℕ → Part
+unitPart w a i s = nanosPart w a (unitOf (take (reach inUnit (drop i s) 0) (drop i s))) (i + reach inUnit (drop i s) 0)
+
+-- ---- the whole run
+
+-- how many bytes the sign has, b being the first byte of the run
+unfoldable pub signSize : ℕ → ℕ
+signSize b = pick (eqb b 45 || eqb b 43) 1 0
+
+-- the run after its sign, under that sign
+unfoldable pub magnitude : Bool → List ℕ → Parsed
+magnitude neg s =
+    pick (sameBytes s (48 ∷ [])) (parsed.Nanos (pos 0)) (pick (eqb (length s) 0) parsed.Bad (finish neg (sumFrom 0 0 s)))

@@ -1,0 +1,37 @@
+-- The units of durations, and the number that a list of digits writes.
+use mathlib.Core.List.{List, [], _∷_}
+use Prim.Native.Nat.{ℕ, _+_, _-_, _*_}
+use Rattle.base.specs.Choice.{pick}
+use Rattle.base.specs.Bytes.{sameBytes}
+
+-- document 01: "1 for ns, 1,000 for us (also with U+00B5 or U+03BC for the u), 1,000,000 for ms, 1,000,000,000 for s, 60,000,000,000 for m,
+-- 3,600,000,000,000 for h"; `unit_of` of go_duration.rs
+unfoldable pub units : List (List ℕ × ℕ)
+units =
+    (110 ∷ 115 ∷ [], 1)
+    ∷ (117 ∷ 115 ∷ [], 1000)
+    ∷ (0xC2 ∷ 0xB5 ∷ 115 ∷ [], 1000)
+    ∷ (0xCE ∷ 0xBC ∷ 115 ∷ [], 1000)
+    ∷ (109 ∷ 115 ∷ [], 1000000)
+    ∷ (115 ∷ [], 1000000000)
+    ∷ (109 ∷ [], 60000000000)
+    ∷ (104 ∷ [], 3600000000000)
+    ∷ []
+
+abbrev pub unitIn : List (List ℕ × ℕ) → List ℕ → ℕ
+unitIn [] u = 0
+unitIn (r ∷ rs) u = pick (sameBytes u (r .0)) (r .1) (unitIn rs u)
+
+-- the nanoseconds of a unit, or 0 where it is none
+unfoldable pub unitOf : List ℕ → ℕ
+unfolding units
+unitOf u = unitIn units u
+
+-- the number that digits write after w
+unfoldable pub valueFrom : ℕ → List ℕ → ℕ
+valueFrom w [] = w
+valueFrom w (b ∷ bs) = valueFrom (w * 10 + (b - 48)) bs
+
+-- the number that digits write: "Missing digits of a whole number count as 0"
+abbrev pub valueOf : List ℕ → ℕ
+valueOf l = valueFrom 0 l

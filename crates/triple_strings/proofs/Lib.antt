@@ -1,0 +1,9 @@
+pub mod ByLines
+pub mod QuoteSearch
+pub mod LineScans
+pub mod Undents
+pub mod Dedents
+pub mod RawParts
+pub mod Triples
+pub mod ValueOctets
+pub mod Examples

@@ -1,0 +1,65 @@
+-- Triple-quoted strings: `lex_triple_string`.
+use mathlib.Core.Bool.{Bool, _&&_}
+use mathlib.Core.List.{List, [], _∷_}
+use Prim.Native.Nat.{ℕ, suc, _+_, _-_}
+use lib.Dec.{leb, ltb, eqb}
+use lib.ListN.{length, take, drop}
+use Rattle.base.specs.Choice.{pick}
+use Rattle.base.specs.Bytes.{byte}
+use Rattle.utf8.specs.Check.{charEnd}
+use Rattle.token.specs.declared.kind.TokenKind.the-variants as K
+use Rattle.lexeme.specs.Lexeme.{extent, illegal, Note, noteAtStart}
+use Rattle.lexeme.specs.declared.Lexeme.{Lexeme}
+use Rattle.lexeme.specs.declared.Mode.{Mode}
+use Rattle.lexeme.specs.declared.Mode.the-variants.{Strict, Tolerant}
+use Rattle.triple_strings.specs.Dedent.{dedent}
+
+-- three quotes at the front; past the end `byte` gives 0
+unfoldable pub quotes : List ℕ → Bool
+quotes l = eqb (byte l 0) 0x22 && (eqb (byte l 1) 0x22 && eqb (byte l 2) 0x22)
+
+-- how many bytes stand before the first three quotes, or all of them
+unfoldable pub untilQuotes : List ℕ → ℕ
+untilQuotes [] = 0
+untilQuotes (x ∷ xs) = pick (quotes (x ∷ xs)) 0 (suc (untilQuotes xs))
+
+-- the length of what stands between the opening quotes and the closing ones, or the end
+unfoldable pub rawSize : List ℕ → ℕ
+rawSize s = untilQuotes (drop 3 s)
+
+-- the raw bytes
+unfoldable pub rawBytes : List ℕ → List ℕ
+rawBytes s = take (rawSize s) (drop 3 s)
+
+-- closing quotes are there
+unfoldable pub closed : List ℕ → Bool
+closed s = ltb (rawSize s + 3) (length s)
+
+-- document 01: "open triple strings two [bytes before the end], never before their content", and after the character there
+unfoldable pub openTripleEnd : List ℕ → ℕ
+openTripleEnd s = charEnd s (pick (leb 5 (length s)) (length s - 2) 3)
+
+-- "12 open triple string"; the tolerant reader takes all that is left and reports it
+abbrev pub openTriple : Mode → List ℕ → Lexeme
+openTriple Strict s = illegal 12 0 (openTripleEnd s)
+openTriple Tolerant s = extent K.String (length s) 0 (length (dedent (rawBytes s))) 1
+
+-- the triple-quoted string at the front of s, which begins with three quotes
+unfoldable pub lexTripleString : Mode → List ℕ → Lexeme
+lexTripleString m s = pick (closed s) (extent K.String (rawSize s + 6) 0 (length (dedent (rawBytes s))) 0) (openTriple m s)
+
+-- the bytes that go to the string buffer
+abbrev pub openBytes : Mode → List ℕ → List ℕ
+openBytes Strict s = []
+openBytes Tolerant s = dedent (rawBytes s)
+
+unfoldable pub tripleBytes : Mode → List ℕ → List ℕ
+tripleBytes m s = pick (closed s) (dedent (rawBytes s)) (openBytes m s)
+
+-- its report, at its start
+abbrev pub openNotes : Mode → List Note
+openNotes Strict = []
+openNotes Tolerant = noteAtStart 12 ∷ []
+
+unfoldable pub tripleNotes : Mode → List ℕ → List Note
+tripleNotes m s = pick (closed s) [] (openNotes m)

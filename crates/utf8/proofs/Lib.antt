@@ -1,0 +1,13 @@
+pub mod Alternatives
+pub mod Chars
+pub mod Runs
+pub mod Valid
+pub mod Concatenations
+pub mod Boundaries
+pub mod Leads
+pub mod Sizes
+pub mod States
+pub mod Scans
+pub mod Codes
+pub mod RoundTrip
+pub mod Cases

@@ -1,0 +1,39 @@
+-- `all_ascii` meets its contract: the bytes passed and the bytes left make the whole. Assumes nothing.
+use mathlib.Core.Path.{_≡_, refl}
+use mathlib.Core.Bool.{_&&_}
+use Prim.Native.Nat.{_-_}
+use lib.ListN.{length, drop}
+use Rattle.utf8.specs.Ascii.{allAscii}
+use Rattle.utf8.proofs.Runs.{all-turn, all-end}
+use borrow.Author.Needs.{needs}
+use Rattle.utf8.proofs.ascii.all_ascii.Statement.{statement}
+use Rattle.utf8.proofs.ascii.all_ascii.Tie as tie
+
+abbrev Inv-loop : tie.InvT-loop
+Inv-loop s all₀ i₀ all i = (all && allAscii (drop i s)) ≡ allAscii s
+
+abbrev μ-loop : tie.MeasureT-loop
+μ-loop s all₀ i₀ all i = length s - i
+
+loop-holds : tie.Need-loop-holds Inv-loop μ-loop
+loop-holds c = refl
+
+shared-slice-read-all : tie.Need-shared-slice-read-all Inv-loop μ-loop
+shared-slice-read-all c = search needs
+
+add-i : tie.Need-add-i Inv-loop μ-loop
+add-i c = search needs
+
+loop-less : tie.Need-loop-less Inv-loop μ-loop
+loop-less c = search needs
+
+loop-again : tie.Need-loop-again Inv-loop μ-loop
+loop-again c = let l = c .before .before .loop in all-turn _ (l .all) (l .i) (l .inv) (c .before .loop-test .taken)
+
+returns : tie.Need-returns Inv-loop μ-loop
+returns c = search all-end
+
+pub all-ascii-spec : {M : Type 1} → statement M
+all-ascii-spec =
+    tie.close
+    (tie.spec Inv-loop μ-loop loop-holds shared-slice-read-all add-i loop-less loop-again returns)

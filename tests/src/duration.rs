@@ -2,7 +2,19 @@
 //! takes UTF-8 alone, and the proved reader any bytes. On UTF-8 it is held to
 //! the Rust's verdict and value; on other bytes it stands in for the Rust.
 
-const LARGEST: i128 = 1 << 63;
+pub const LARGEST: i128 = 1 << 63;
+
+/// Each unit and its nanoseconds.
+pub const UNITS: [(&str, i128); 8] = [
+    ("ns", 1),
+    ("us", 1_000),
+    ("\u{b5}s", 1_000),
+    ("\u{3bc}s", 1_000),
+    ("ms", 1_000_000),
+    ("s", 1_000_000_000),
+    ("m", 60_000_000_000),
+    ("h", 3_600_000_000_000),
+];
 
 /// The nanoseconds of a run, or `None` where it is refused.
 pub fn parse(run: &[u8]) -> Option<i64> {
@@ -72,15 +84,9 @@ fn fraction_of(digits: &[u8], unit: i128) -> i128 {
 }
 
 fn unit(name: &[u8]) -> Option<i128> {
-    Some(match name {
-        b"ns" => 1,
-        b"us" | b"\xC2\xB5s" | b"\xCE\xBCs" => 1_000,
-        b"ms" => 1_000_000,
-        b"s" => 1_000_000_000,
-        b"m" => 60_000_000_000,
-        b"h" => 3_600_000_000_000,
-        _ => return None,
-    })
+    let mut units = UNITS.iter();
+    let unit = units.find(|(known, _)| known.as_bytes() == name);
+    unit.map(|&(_, nanoseconds)| nanoseconds)
 }
 
 fn split_while(bytes: &[u8], keep: impl Fn(u8) -> bool) -> (&[u8], &[u8]) {

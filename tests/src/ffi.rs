@@ -26,7 +26,40 @@ mod exports {
 
 #[cfg(feature = "pxf")]
 mod pxf {
+    use crate::records::Lent;
+    use crate::token::Position;
+
     extern "C" {
+        fn pxf_read_text(
+            text: *const u8,
+            text_len: usize,
+            mode: u8,
+            limit: u64,
+            tokens: *mut i64,
+            tokens_len: usize,
+            strings: *mut u8,
+            strings_len: usize,
+            reports: *mut i64,
+            reports_len: usize,
+            answer: *mut i64,
+        ) -> u8;
+        fn pxf_read_token(
+            text: *const u8,
+            text_len: usize,
+            offset: u64,
+            line: u64,
+            column: u64,
+            mode: u8,
+            limit: u64,
+            tokens: *mut i64,
+            tokens_len: usize,
+            strings: *mut u8,
+            strings_len: usize,
+            reports: *mut i64,
+            reports_len: usize,
+            answer: *mut i64,
+        ) -> u8;
+        fn pxf_place_of(text: *const u8, text_len: usize, offset: u64, answer: *mut i64) -> u8;
         fn pxf_write_token_file(
             records: *const i64,
             records_len: usize,
@@ -42,6 +75,101 @@ mod pxf {
             tokens_len: usize,
             answer: *mut i64,
         ) -> u8;
+    }
+
+    /// The buffers that a call on a text is lent.
+    #[derive(Debug, Clone, PartialEq, Eq)]
+    pub struct Buffers {
+        pub tokens: Vec<i64>,
+        pub strings: Vec<u8>,
+        pub reports: Vec<i64>,
+    }
+
+    impl Buffers {
+        /// What every number and every byte is before a call. 0xFF is never a
+        /// byte of UTF-8, so no string has it.
+        pub const UNTOUCHED: i64 = -0x0123_4567_89AB_CDEF;
+        pub const UNTOUCHED_BYTE: u8 = 0xFF;
+
+        pub fn untouched(lent: Lent) -> Buffers {
+            Buffers {
+                tokens: vec![Buffers::UNTOUCHED; lent.tokens],
+                strings: vec![Buffers::UNTOUCHED_BYTE; lent.strings],
+                reports: vec![Buffers::UNTOUCHED; lent.reports],
+            }
+        }
+    }
+
+    /// 0 or the refusal's number; `answer` gets the counts of tokens, string
+    /// bytes and reports, or the offset of refusal 2.
+    pub fn read_text(
+        text: &[u8],
+        mode: u8,
+        limit: u64,
+        buffers: &mut Buffers,
+        answer: &mut [i64; 6],
+    ) -> u8 {
+        // SAFETY: the function reads `text`, and writes within the three
+        // buffers and the six numbers of `answer`.
+        unsafe {
+            pxf_read_text(
+                text.as_ptr(),
+                text.len(),
+                mode,
+                limit,
+                buffers.tokens.as_mut_ptr(),
+                buffers.tokens.len(),
+                buffers.strings.as_mut_ptr(),
+                buffers.strings.len(),
+                buffers.reports.as_mut_ptr(),
+                buffers.reports.len(),
+                answer.as_mut_ptr(),
+            )
+        }
+    }
+
+    /// As `read_text` for one token from `place`; `answer` gets offset, line
+    /// and column of the token's end too.
+    pub fn read_token(
+        text: &[u8],
+        place: Position,
+        mode: u8,
+        limit: u64,
+        buffers: &mut Buffers,
+        answer: &mut [i64; 6],
+    ) -> u8 {
+        // SAFETY: as for `read_text`.
+        unsafe {
+            pxf_read_token(
+                text.as_ptr(),
+                text.len(),
+                place.offset as u64,
+                place.line as u64,
+                place.column as u64,
+                mode,
+                limit,
+                buffers.tokens.as_mut_ptr(),
+                buffers.tokens.len(),
+                buffers.strings.as_mut_ptr(),
+                buffers.strings.len(),
+                buffers.reports.as_mut_ptr(),
+                buffers.reports.len(),
+                answer.as_mut_ptr(),
+            )
+        }
+    }
+
+    /// 0 or the refusal's number; `answer` gets offset, line and column.
+    pub fn place_of(text: &[u8], offset: usize, answer: &mut [i64; 6]) -> u8 {
+        // SAFETY: the function reads `text`, and writes the six numbers.
+        unsafe {
+            pxf_place_of(
+                text.as_ptr(),
+                text.len(),
+                offset as u64,
+                answer.as_mut_ptr(),
+            )
+        }
     }
 
     /// 0 or the refusal's number; `answer` gets the bytes written.

@@ -8,14 +8,21 @@ pub use stand_ins::{BoxError, Error, KeyedError};
 // The Rust modules: lexer, token, go_duration and those they lean on.
 include!(concat!(env!("OUT_DIR"), "/rust.rs"));
 
+#[cfg(feature = "pxf")]
+pub mod calls;
 pub mod cases;
+pub mod conformance;
 pub mod duration;
 pub mod exceptions;
 #[cfg(any(feature = "exports", feature = "pxf"))]
 pub mod ffi;
+pub mod grammar;
+pub mod notation;
 pub mod random;
 pub mod records;
+pub mod shrink;
 mod stand_ins;
 pub mod tally;
 pub mod texts;
+pub mod timing;
 pub mod token_file;

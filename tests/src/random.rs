@@ -42,4 +42,11 @@ impl Random {
     pub fn byte(&mut self) -> u8 {
         self.number() as u8
     }
+
+    /// So many decimal digits.
+    pub fn digits(&mut self, length: usize) -> String {
+        (0..length)
+            .map(|_| self.pick(&b"0123456789".map(char::from)))
+            .collect()
+    }
 }

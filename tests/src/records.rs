@@ -28,7 +28,7 @@ pub struct Reading {
 }
 
 /// The lengths of the lent buffers: numbers, bytes, numbers.
-#[derive(Debug, Clone, Copy)]
+#[derive(Debug, Clone, Copy, PartialEq, Eq)]
 pub struct Lent {
     pub tokens: usize,
     pub strings: usize,
@@ -41,6 +41,12 @@ impl Lent {
         tokens: usize::MAX,
         strings: usize::MAX,
         reports: usize::MAX,
+    };
+    /// No buffers at all.
+    pub const NONE: Lent = Lent {
+        tokens: 0,
+        strings: 0,
+        reports: 0,
     };
 }
 
@@ -111,7 +117,8 @@ fn reposition(lexer: &mut Lexer<'_>, text: &str, offset: usize) -> Result<Positi
     Ok(lexer.current_pos())
 }
 
-fn lexer(text: &str, mode: Mode, limit: u64) -> Lexer<'_> {
+/// The Rust's lexer, as document 01 names it.
+pub fn lexer(text: &str, mode: Mode, limit: u64) -> Lexer<'_> {
     let mut lexer = Lexer::with_limits(text, limit as usize);
     if mode == Mode::Tolerant {
         lexer.set_tolerant();
@@ -120,15 +127,25 @@ fn lexer(text: &str, mode: Mode, limit: u64) -> Lexer<'_> {
 }
 
 impl Reading {
+    /// The lengths of buffers that hold this and no more.
+    pub fn exact(&self) -> Lent {
+        Lent {
+            tokens: self.records.as_flattened().len(),
+            strings: self.strings.len(),
+            reports: self.reports.as_flattened().len(),
+        }
+    }
+
     /// Refusals 4, 5 and 6.
-    fn fits(&self, lent: Lent) -> Result<(), Refusal> {
-        if lent.tokens < self.records.as_flattened().len() {
+    pub fn fits(&self, lent: Lent) -> Result<(), Refusal> {
+        let exact = self.exact();
+        if lent.tokens < exact.tokens {
             return Err(Refusal::of(4));
         }
-        if lent.strings < self.strings.len() {
+        if lent.strings < exact.strings {
             return Err(Refusal::of(5));
         }
-        if lent.reports < self.reports.as_flattened().len() {
+        if lent.reports < exact.reports {
             return Err(Refusal::of(6));
         }
         Ok(())
@@ -245,7 +262,8 @@ fn meaning(message: &str, token: &[u8]) -> [i64; 2] {
     [reason, i64::from(detail)]
 }
 
-fn numbers(place: Position) -> [i64; 3] {
+/// Offset, line, column.
+pub fn numbers(place: Position) -> [i64; 3] {
     [place.offset, place.line, place.column].map(|number| number as i64)
 }
 

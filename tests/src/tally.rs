@@ -23,6 +23,21 @@ impl Tally {
         }
     }
 
+    pub fn pass(&mut self, count: u64) {
+        self.passed += count;
+    }
+
+    /// A failure that is described elsewhere.
+    pub fn fail(&mut self) {
+        self.failed += 1;
+    }
+
+    /// Takes over what another has counted.
+    pub fn add(&mut self, other: Tally) {
+        self.passed += other.passed;
+        self.failed += other.failed;
+    }
+
     pub fn passed(&self) -> u64 {
         self.passed
     }

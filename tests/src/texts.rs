@@ -1,6 +1,24 @@
-//! Random texts, made of the pieces that decide something in the lexer.
+//! What texts are made of: characters and pieces that decide something in the
+//! lexer, and damage.
 
 use crate::random::Random;
+
+/// Characters of which one or another decides in every rule.
+#[rustfmt::skip]
+pub const TELLING: [char; 41] = [
+    // strings, newlines, blanks, comments, directives, punctuation
+    '"', '\\', '\n', ' ', '\t', '\r', '/', '*', '#', '@', '{',
+    // bytes, numbers, signs, units, escapes
+    'b', '.', '-', '+', 'e', 'p', 'x', 'u', 'U', 's', 'm', 'n', 'h', 'i', 'f', 'a', '0', '1', '8',
+    // characters of several bytes, white space among them, and controls
+    'é', '\u{b5}', '\u{3bc}', '€', '😀', '\u{85}', '\u{a0}', '\u{2003}', '\u{3000}', '\0', '\u{7f}',
+];
+
+/// Bytes at and beside every border of RFC 3629's table.
+pub const UTF8_BORDERS: [u8; 22] = [
+    0x00, 0x41, 0x7F, 0x80, 0x81, 0x8F, 0x90, 0x9F, 0xA0, 0xBF, 0xC0, 0xC1, 0xC2, 0xDF, 0xE0, 0xED,
+    0xEF, 0xF0, 0xF4, 0xF5, 0xF8, 0xFF,
+];
 
 #[rustfmt::skip]
 const PIECES: &[&str] = &[
@@ -30,4 +48,27 @@ pub fn random_text(random: &mut Random, most: usize) -> String {
     (0..random.below(most))
         .map(|_| random.pick(PIECES))
         .collect()
+}
+
+/// Changes, inserts, drops or doubles bytes, or cuts the text off.
+pub fn damage(text: &mut Vec<u8>, random: &mut Random) {
+    let at = random.below(text.len() + 1);
+    let byte = if random.one_in(2) {
+        random.byte()
+    } else {
+        random.pick(&UTF8_BORDERS)
+    };
+    match random.below(6) {
+        0 => text.insert(at, byte),
+        1 => text.truncate(at),
+        2 => {
+            let run = text[at..].iter().take(random.below(9)).copied();
+            let run: Vec<u8> = run.collect();
+            text.splice(at..at, run);
+        }
+        _ if at == text.len() => {}
+        3 => text[at] = byte,
+        4 => text[at] ^= 1 << random.below(8),
+        _ => drop(text.remove(at)),
+    }
 }

@@ -4,6 +4,7 @@
 use std::collections::BTreeSet;
 
 use oracle::cases::DEFAULT_LIMIT;
+use oracle::grammar::grown_text;
 use oracle::random::Random;
 use oracle::records::{self, read_text, read_token, Lent, Mode, Reading, Refusal};
 use oracle::texts::random_text;
@@ -17,7 +18,10 @@ fn readings_of_random_texts() {
     let mut random = Random::new(1);
     let (mut kinds, mut reasons) = (BTreeSet::new(), BTreeSet::new());
     for _ in 0..TEXTS {
-        let text = random_text(&mut random, 14);
+        let text = match random.one_in(2) {
+            true => random_text(&mut random, 14),
+            false => grown_text(&mut random),
+        };
         let limit = random.pick(&[DEFAULT_LIMIT, 0, 2, 3, 6]);
         for mode in [Mode::Strict, Mode::Tolerant] {
             let reading = read_text(text.as_bytes(), mode, limit, Lent::AMPLE);
@@ -89,11 +93,7 @@ fn reads_one_by_one(text: &str, mode: Mode, limit: u64, reading: &Reading) {
 }
 
 fn refuses_short_buffers(text: &str, mode: Mode, limit: u64, reading: &Reading) {
-    let exact = Lent {
-        tokens: reading.records.as_flattened().len(),
-        strings: reading.strings.len(),
-        reports: reading.reports.as_flattened().len(),
-    };
+    let exact = reading.exact();
     let number = |lent| read_text(text.as_bytes(), mode, limit, lent).map_err(|e| e.number);
     assert_eq!(number(exact).as_ref(), Ok(reading));
     let tokens = exact.tokens - 1;

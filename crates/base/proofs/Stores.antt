@@ -58,3 +58,11 @@ module _ {A : Type 0} (z : A) where
 
   pub store-end : (d : List A) (to : ℕ) (s : List A) (k : ℕ) → length s ≤ k → storing d to s k ≡ d
   store-end d to s k h = rw (drop-of-length-le s h)
+
+-- a list is another one with values stored from an index on
+pub record Stored {A : Type 0} (l : List A) (i : ℕ) (vs l′ : List A) : Type 0 where
+  pub is : l′ ≡ sets l i vs
+
+-- two runs of stores, the second from the end of the first
+pub stored-then : {A : Type 0} {l l₁ l₂ : List A} {i j : ℕ} {vs ws : List A} → Stored l i vs l₁ → j ≡ i + length vs → Stored l₁ j ws l₂ → Stored l i (vs ++ ws) l₂
+stored-then {l = l} {i = i} {vs = vs} {ws = ws} p e q = record { is = q .is ∙ rw (e, p .is) (sym (sets-append l i vs ws)) }

@@ -22,6 +22,10 @@ pub and-true : (b : Bool) → b && true ≡ b
 and-true true = refl
 and-true false = refl
 
+pub and-assoc : (a b d : Bool) → (a && b) && d ≡ a && (b && d)
+and-assoc true b d = refl
+and-assoc false b d = refl
+
 pub and-false : (b : Bool) → b && false ≡ false
 and-false true = refl
 and-false false = refl

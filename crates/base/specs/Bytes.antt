@@ -1,7 +1,7 @@
 -- Bytes of a text, ranges of numbers, and equality of lists of bytes.
 use mathlib.Core.Bool.{Bool, true, false, _&&_}
 use mathlib.Core.List.{List, [], _∷_}
-use Prim.Native.Nat.{ℕ}
+use Prim.Native.Nat.{ℕ, _<_}
 use lib.Dec.{leb, eqb}
 use lib.ListN.{getD}
 
@@ -24,3 +24,7 @@ sameBytes (a ∷ s) (b ∷ t) = eqb a b && sameBytes s t
 abbrev pub each : (ℕ → Bool) → List ℕ → Bool
 each t [] = true
 each t (b ∷ bs) = t b && each t bs
+
+-- each number of the list is a byte
+abbrev pub AreBytes : List ℕ → Type 0
+AreBytes s = (k : ℕ) → byte s k < 256

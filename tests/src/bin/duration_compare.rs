@@ -3,24 +3,12 @@
 
 use std::process::ExitCode;
 
+use oracle::duration::{LARGEST, UNITS};
 use oracle::random::Random;
 use oracle::tally::Tally;
 use oracle::{duration, exceptions, ffi};
 
 const RANDOM_RUNS: usize = 2_000_000;
-const LARGEST: u128 = 1 << 63;
-
-/// Each unit and its nanoseconds.
-const UNITS: [(&str, u128); 8] = [
-    ("ns", 1),
-    ("us", 1_000),
-    ("\u{b5}s", 1_000),
-    ("\u{3bc}s", 1_000),
-    ("ms", 1_000_000),
-    ("s", 1_000_000_000),
-    ("m", 60_000_000_000),
-    ("h", 3_600_000_000_000),
-];
 
 /// What stands where a unit should: near misses, and bytes of cut characters.
 #[rustfmt::skip]
@@ -99,7 +87,7 @@ fn fixed_runs(tally: &mut Tally) {
 fn whole_numbers_at_the_border(tally: &mut Tally) {
     for (unit, nanoseconds) in UNITS {
         for border in [LARGEST / nanoseconds, LARGEST, 2 * LARGEST, 10 * LARGEST] {
-            for whole in border.saturating_sub(12)..border + 12 {
+            for whole in border - 12..border + 12 {
                 compare_signed(format!("{whole}{unit}"), tally);
                 compare_signed(format!("{whole}.999999999999{unit}"), tally);
                 compare_signed(format!("000{whole}.0{unit}"), tally);
@@ -114,7 +102,7 @@ fn fractions(random: &mut Random, tally: &mut Tally) {
     for (unit, _) in UNITS {
         for length in 1..=25 {
             let mut fractions = vec!["9".repeat(length), "0".repeat(length)];
-            fractions.extend((0..200).map(|_| digits(random, length)));
+            fractions.extend((0..200).map(|_| random.digits(length)));
             for fraction in fractions {
                 compare_signed(format!("{}.{fraction}{unit}", random.below(30)), tally);
                 compare_signed(format!(".{fraction}{unit}"), tally);
@@ -133,9 +121,9 @@ fn fractions(random: &mut Random, tally: &mut Tally) {
 fn sums_at_the_border(random: &mut Random, tally: &mut Tally) {
     for _ in 0..50_000 {
         let (unit, nanoseconds) = random.pick(&UNITS);
-        let first = u128::from(random.number()) % (LARGEST + 1) / nanoseconds;
+        let first = i128::from(random.number()) % (LARGEST + 1) / nanoseconds;
         let missing = LARGEST - first * nanoseconds;
-        let second = (missing + random.below(5) as u128).saturating_sub(2);
+        let second = (missing + random.below(5) as i128 - 2).max(0);
         compare_signed(format!("{first}{unit}{second}ns"), tally);
     }
     for before in ["", "0s", "0.0h"] {
@@ -153,12 +141,12 @@ fn random_run(random: &mut Random) -> Vec<u8> {
         if !random.one_in(8) {
             let most = random.pick(&[2, 5, 10, 20, 22]);
             let length = random.below(most);
-            run.extend(digits(random, length).into_bytes());
+            run.extend(random.digits(length).into_bytes());
         }
         if random.one_in(2) {
             run.push(b'.');
             let length = random.below(26);
-            run.extend(digits(random, length).into_bytes());
+            run.extend(random.digits(length).into_bytes());
         }
         if random.one_in(30) {
             run.extend(random.pick(&WRONG_UNITS));
@@ -171,10 +159,4 @@ fn random_run(random: &mut Random) -> Vec<u8> {
         run[at] = random.byte();
     }
     run
-}
-
-fn digits(random: &mut Random, length: usize) -> String {
-    (0..length)
-        .map(|_| random.pick(&b"0123456789".map(char::from)))
-        .collect()
 }

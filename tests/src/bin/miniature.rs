@@ -1,10 +1,10 @@
 //! Prints what the Rust gives for document 01's miniature cases, in its
 //! numbers, and compares with those that the paper gives.
 
-use std::fmt::Display;
 use std::process::ExitCode;
 
 use oracle::cases::{Case, DEFAULT_LIMIT, FURTHER, LISTING, LISTING_TEXT, MINIATURE};
+use oracle::notation::joined;
 use oracle::records::{read_text, Lent, Mode, Reading};
 use oracle::tally::Tally;
 
@@ -56,9 +56,4 @@ fn listing(text: &str) -> String {
         joined(&[start, end, line, column, kind, reason, nanoseconds]) + "\n"
     });
     lines.collect()
-}
-
-fn joined(numbers: &[impl Display]) -> String {
-    let words: Vec<String> = numbers.iter().map(|number| number.to_string()).collect();
-    words.join(" ")
 }

@@ -5,21 +5,16 @@
 use std::hint::black_box;
 use std::process::ExitCode;
 use std::str::from_utf8;
-use std::time::Instant;
 
 use oracle::ffi::check_utf8;
 use oracle::random::Random;
 use oracle::tally::Tally;
+use oracle::texts::{damage, UTF8_BORDERS};
+use oracle::timing::best_seconds;
 
 const RANDOM_TEXTS: usize = 1_000_000;
 const SPEED_BYTES: usize = 64 << 20;
 const SPEED_RUNS: usize = 7;
-
-/// Bytes at and beside every border of RFC 3629's table.
-const BORDERS: [u8; 22] = [
-    0x00, 0x41, 0x7F, 0x80, 0x81, 0x8F, 0x90, 0x9F, 0xA0, 0xBF, 0xC0, 0xC1, 0xC2, 0xDF, 0xE0, 0xED,
-    0xEF, 0xF0, 0xF4, 0xF5, 0xF8, 0xFF,
-];
 
 /// What a sequence is put between. The lengths differ, so that the sequence
 /// also meets the ends of a check that takes several bytes at once.
@@ -80,9 +75,9 @@ fn four_byte_sequences(tally: &mut Tally) {
     let before = tally.passed();
     let mut text = Vec::new();
     for lead in 0xF0..=0xF7 {
-        for second in BORDERS {
-            for third in BORDERS {
-                for fourth in BORDERS {
+        for second in UTF8_BORDERS {
+            for third in UTF8_BORDERS {
+                for fourth in UTF8_BORDERS {
                     compare_around(&[lead, second, third, fourth], &mut text, tally);
                 }
             }
@@ -123,23 +118,6 @@ fn random_characters(random: &mut Random, bytes: usize, ascii_in_ten: usize) -> 
     text
 }
 
-/// Changes, inserts or drops a byte, or cuts the text off.
-fn damage(text: &mut Vec<u8>, random: &mut Random) {
-    let at = random.below(text.len() + 1);
-    let byte = if random.one_in(2) {
-        random.byte()
-    } else {
-        random.pick(&BORDERS)
-    };
-    match random.below(4) {
-        0 => text.insert(at, byte),
-        1 => text.truncate(at),
-        _ if at == text.len() => {}
-        2 => text[at] = byte,
-        _ => drop(text.remove(at)),
-    }
-}
-
 fn speeds(random: &mut Random) {
     let texts = [
         ("ASCII", "x = 1.5s # log\n".repeat(SPEED_BYTES / 15)),
@@ -154,13 +132,10 @@ fn speeds(random: &mut Random) {
     }
 }
 
-/// MiB per second, the best of several runs.
+/// MiB per second.
 fn best_speed(text: &[u8], accepts: impl Fn(&[u8]) -> bool) -> f64 {
-    let seconds = (0..SPEED_RUNS).map(|_| {
-        let start = Instant::now();
+    let seconds = best_seconds(SPEED_RUNS, || {
         assert!(accepts(black_box(text)), "a well-formed text was refused");
-        start.elapsed().as_secs_f64()
     });
-    let best = seconds.fold(f64::INFINITY, f64::min);
-    text.len() as f64 / f64::from(1 << 20) / best
+    text.len() as f64 / f64::from(1 << 20) / seconds
 }

@@ -1,0 +1,132 @@
+//! The speed of the whole reading: the proved library beside the Rust's
+//! `from_utf8` plus `collect_tokens`, in one process, on texts of 8 MiB; then
+//! whether the proved one stays as fast on longer texts.
+//!
+//! What is timed of the proved library is one call, into buffers that were
+//! allocated and touched before. The Rust allocates as it goes; that its tokens
+//! are freed is not timed. Each time is the best of several runs.
+
+mod texts;
+
+use std::process::ExitCode;
+use std::str::from_utf8;
+
+use oracle::cases::DEFAULT_LIMIT;
+use oracle::ffi::{self, Buffers};
+use oracle::records::{lexer, Lent, Mode, RECORD};
+use oracle::tally::Tally;
+use oracle::timing::best_seconds;
+use oracle::token::TokenKind;
+use texts::{Text, TEXTS};
+
+const MIB: usize = 1 << 20;
+const SIZE: usize = 8 * MIB;
+const SIZES: [usize; 4] = [SIZE, 16 * MIB, 32 * MIB, 64 * MIB];
+const RUNS: usize = 5;
+/// On longer texts the speed is at least this part of that on 8 MiB.
+const STEADY: f64 = 0.5;
+/// Longer texts of more tokens are left out; the records of so many are 3 GiB.
+const MOST_TOKENS: usize = (3 << 30) / (8 * RECORD);
+
+fn main() -> ExitCode {
+    let mut tally = Tally::default();
+    println!("Bytes a second on 8 MiB");
+    println!("{:<30}{:>12}{:>12}  ratio", "", "proved", "Rust");
+    for text in &TEXTS {
+        beside_the_rust(text, &mut tally);
+    }
+    println!("\nBytes a second of the proved library on 8, 16, 32 and 64 MiB");
+    for text in &TEXTS {
+        on_longer_texts(text, &mut tally);
+    }
+    tally.finish()
+}
+
+fn beside_the_rust(text: &Text, tally: &mut Tally) {
+    let mut reading = Reading::new(text, SIZE);
+    reading.lend_buffers();
+    let (proved, rust) = (reading.proved_speed(RUNS), reading.rust_speed(RUNS));
+    let (name, ratio, goal) = (text.name, proved / rust, text.goal);
+    println!("{name:<30}{proved:>12.0}{rust:>12.0}{ratio:>7.2}");
+    tally.check(ratio >= goal, || format!("{name}: the goal is {goal}"));
+}
+
+/// Whether the time is linear in the length.
+fn on_longer_texts(text: &Text, tally: &mut Tally) {
+    let mut shown = format!("{:<30}", text.name);
+    let mut speeds = Vec::new();
+    for size in SIZES {
+        let mut reading = Reading::new(text, size);
+        if reading.tokens > MOST_TOKENS {
+            shown += "    left out";
+            continue;
+        }
+        reading.lend_buffers();
+        let speed = reading.proved_speed(RUNS);
+        shown += &format!("{speed:>12.0}");
+        speeds.push(speed);
+    }
+    println!("{shown}");
+    let steady = speeds.iter().all(|&speed| speed >= STEADY * speeds[0]);
+    tally.check(steady, || format!("{}: not linear", text.name));
+}
+
+/// A text that is read in one mode or the other.
+struct Reading {
+    text: Vec<u8>,
+    mode: Mode,
+    tokens: usize,
+    buffers: Buffers,
+}
+
+impl Reading {
+    fn new(text: &Text, size: usize) -> Reading {
+        let mode = text.mode;
+        let text = (text.make)(size);
+        assert!(text.len() <= size);
+        let mut lexer = lexer(from_utf8(&text).expect("UTF-8"), mode, DEFAULT_LIMIT);
+        let mut tokens = 1;
+        while lexer.next_token().kind != TokenKind::Eof {
+            tokens += 1;
+        }
+        Reading {
+            text,
+            mode,
+            tokens,
+            buffers: Buffers::untouched(Lent::NONE),
+        }
+    }
+
+    fn lend_buffers(&mut self) {
+        // A report takes two bytes of text or more, but for one.
+        let most_reports = match self.mode {
+            Mode::Strict => 0,
+            Mode::Tolerant => self.text.len() / 2 + 1,
+        };
+        self.buffers = Buffers::untouched(Lent {
+            tokens: RECORD * self.tokens,
+            strings: self.text.len(),
+            reports: 5 * most_reports,
+        });
+    }
+
+    fn proved_speed(&mut self, runs: usize) -> f64 {
+        let (text, mode) = (&self.text, self.mode as u8);
+        let mut answer = [0; 6];
+        let seconds = best_seconds(runs, || {
+            let number = ffi::read_text(text, mode, DEFAULT_LIMIT, &mut self.buffers, &mut answer);
+            assert_eq!((number, answer[0]), (0, self.tokens as i64));
+        });
+        text.len() as f64 / seconds
+    }
+
+    fn rust_speed(&self, runs: usize) -> f64 {
+        let seconds = best_seconds(runs, || {
+            let text = from_utf8(&self.text).expect("UTF-8");
+            let tokens = lexer(text, self.mode, DEFAULT_LIMIT).collect_tokens();
+            assert_eq!(tokens.len(), self.tokens);
+            tokens
+        });
+        self.text.len() as f64 / seconds
+    }
+}

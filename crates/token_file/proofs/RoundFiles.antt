@@ -1,0 +1,163 @@
+-- Files of rows and rows of files, for any layout with room for the numbers: reading what was written gives back the rows, writing what was read
+-- gives back the bytes, and no two lists of rows have the same file. Then at version 1. Assumes nothing.
+use mathlib.Core.Path.{_≡_, refl, sym, ap, _∙_}
+use mathlib.Core.Bool.{Bool, true, false}
+use mathlib.Core.List.{List, [], _∷_, append-nil}
+use Prim.Native.Nat.{ℕ, _*_, _≤_, _<_}
+use native.Mathlib.Omega.{arith}
+use lib.Dec.{ltb, eqb}
+use lib.ListN.{length, take, drop, length-drop, take-append-drop}
+use lib.Seq.{drop-at, take-add, take-all}
+use borrow.Author.Tests.{ltb-false, le-ltb, eqb-true, eqb-false}
+use Rattle.base.specs.Choice.{pick}
+use Rattle.base.proofs.Tests.{true-false}
+use Rattle.token_file.specs.Rules.{Row, RowRules, RowsRules, someAbove}
+use Rattle.token_file.specs.Format.{Layout, version1, little, numberAt, mark, header, headerWidth, rowWidth, rowsBytes, fileOf, fileWidth, fileCount, fileRows, framed}
+use Rattle.token_file.specs.Fits.{Bytes, RowFits, RowsFit}
+use Rattle.token_file.proofs.Numbers.{bytes-drop, unlittle-little}
+use Rattle.token_file.proofs.Pieces.{bytes-rows-length}
+use Rattle.token_file.proofs.Frames.{header-length, file-length, Framed, framed-test}
+use Rattle.token_file.proofs.RulesPlain.{count-small}
+use Rattle.token_file.proofs.RoundRows.{rows-back, rows-forth, number-forth}
+
+-- ---- rows, written and read
+
+module _ (y : Layout) (rs : List Row) where
+  pub count-back : length rs < 0x100000000 → fileCount (fileOf y rs) ≡ length rs
+  unfolding fileCount fileOf header little
+  count-back h = unlittle-little 4 (length rs) h
+
+  version-back : y .version < 65536 → numberAt (fileOf y rs) 3 2 ≡ y .version
+  unfolding fileOf header little
+  version-back h = unlittle-little 2 (y .version) h
+
+  mark-back : take 3 (fileOf y rs) ≡ mark
+  unfolding fileOf header
+  mark-back = refl
+
+  rows-follow : drop headerWidth (fileOf y rs) ≡ rowsBytes y rs
+  unfolding fileOf
+  rows-follow = drop-at (header y (length rs)) (rowsBytes y rs) headerWidth (header-length y (length rs))
+
+  module _ (n : length rs < 0x100000000) where
+    -- the file of rows has a right frame
+    pub framed-back : y .version < 65536 → framed y (fileOf y rs) ≡ true
+    unfolding fileWidth
+    framed-back v =
+        framed-test y (fileOf y rs)
+        (record {
+          long = omega (arith, file-length y rs);
+          mark = mark-back;
+          version = version-back v;
+          width = file-length y rs ∙ ap (fileWidth y) (sym (count-back n));
+        })
+
+    -- and its rows are those
+    pub rows-of-file : RowsFit y rs → fileRows y (fileOf y rs) ≡ rs
+    unfolding fileRows
+    rows-of-file h = rw (count-back n, rows-follow) (rw append-nil at (rows-back y rs [] h))
+
+-- no two lists of rows have the same file
+pub file-injective : (y : Layout) (rs qs : List Row) → length rs < 0x100000000 → length qs < 0x100000000 → RowsFit y rs → RowsFit y qs
+    → fileOf y rs ≡ fileOf y qs → rs ≡ qs
+file-injective y rs qs n m f g e = sym (rows-of-file y rs n f) ∙ ap (fileRows y) e ∙ rows-of-file y qs m g
+
+-- ---- bytes, read and written
+
+module _ (y : Layout) (file : List ℕ) (b : Bytes file) (f : Framed y file) where
+  header-forth : header y (fileCount file) ≡ take headerWidth file
+  unfolding header fileCount
+  header-forth =
+      let l = f .long in
+      rw (
+        take-add 5 4 file,
+        take-add 3 2 file,
+        ← (f .version),
+        number-forth file b 3 2 (omega arith),
+        number-forth file b 5 4 (omega arith),
+        f .mark,
+      )
+
+  rows-forth-file : rowsBytes y (fileRows y file) ≡ drop headerWidth file
+  unfolding fileRows fileWidth
+  rows-forth-file =
+      let l = f .long in
+      let w = f .width in
+      let d = length-drop headerWidth file in
+      let n : length (drop headerWidth file) ≡ rowWidth y * fileCount file = omega arith in
+      rows-forth y (fileCount file) (drop headerWidth file) (bytes-drop headerWidth file b) (omega arith)
+      ∙ take-all (rowWidth y * fileCount file) (drop headerWidth file) (omega arith)
+
+  -- the file of the rows of a file is that file
+  pub file-of-rows : fileOf y (fileRows y file) ≡ file
+  unfolding fileOf fileRows
+  file-of-rows =
+      rw (bytes-rows-length y (fileCount file) (drop headerWidth file), header-forth, rows-forth-file) (take-append-drop headerWidth file)
+
+-- ---- version 1
+
+-- rows that keep the rules, with columns that are not too long, have room in version 1
+below-end : (r : Row) {prev : ℕ} → RowRules prev r → r .start ≤ r .end
+below-end r h = go (eqb (r .kind) 0) refl
+  where
+    go : (b : Bool) → eqb (r .kind) 0 ≡ b → r .start ≤ r .end
+    go true e = omega (arith, h .span-eof (eqb-true (r .kind) 0 e))
+    go false e = omega (arith, h .span-other (eqb-false (r .kind) 0 e))
+
+reason-small : (r : Row) {prev : ℕ} → RowRules prev r → r .reason ≤ 18
+reason-small r h = go (eqb (r .kind) 1) refl
+  where
+    go : (b : Bool) → eqb (r .kind) 1 ≡ b → r .reason ≤ 18
+    go true e = h .reason-illegal (eqb-true (r .kind) 1 e) .1
+    go false e = omega (arith, h .reason-other (eqb-false (r .kind) 1 e))
+
+row-fits1 : (r : Row) {prev : ℕ} → RowRules prev r → r .column ≤ 65535 → RowFits version1 r
+unfolding version1
+row-fits1 r h s =
+    let e = h .end in
+    let b = below-end r h in
+    record {
+      kind = omega (arith, h .kind);
+      reason = omega (arith, reason-small r h);
+      start = omega arith;
+      end = omega arith;
+      line = omega (arith, h .line .1);
+      column = omega arith;
+    }
+
+-- no column is above the bound: the first is not, nor is another
+columns-first : (bound : ℕ) (r : Row) (rs : List Row) → someAbove bound (r ∷ rs) ≡ false → (r .column ≤ bound) × (someAbove bound rs ≡ false)
+columns-first bound r rs = go (ltb bound (r .column)) refl
+  where
+    go : (b : Bool) → ltb bound (r .column) ≡ b → pick b true (someAbove bound rs) ≡ false → (r .column ≤ bound) × (someAbove bound rs ≡ false)
+    go true e t = true-false true refl t
+    go false e t = (ltb-false bound (r .column) e, t)
+
+pub rows-fit1 : {prev : ℕ} {rs : List Row} → RowsRules prev rs → someAbove 65535 rs ≡ false → RowsFit version1 rs
+rows-fit1 (RowsRules.last {r = r} k h) s = RowsFit.some (row-fits1 r h (columns-first 65535 r [] s .0)) RowsFit.none
+rows-fit1 (RowsRules.more {r = r} {q = q} {rs = rs} k h w) s =
+    let c = columns-first 65535 r (q ∷ rs) s in
+    RowsFit.some (row-fits1 r h (c .0)) (rows-fit1 w (c .1))
+
+column-short : (r : Row) → RowFits version1 r → r .column ≤ 65535
+unfolding version1
+column-short r f = omega (arith, f .column)
+
+-- rows with room in version 1 have no long column
+pub columns-fit : (rs : List Row) → RowsFit version1 rs → someAbove 65535 rs ≡ false
+columns-fit [] h = refl
+columns-fit (r ∷ rs) (RowsFit.some f g) = rw (le-ltb 65535 (r .column) (column-short r f)) (columns-fit rs g)
+
+module _ {rs : List Row} (w : RowsRules 0 rs) (s : someAbove 65535 rs ≡ false) where
+  pub file-framed1 : framed version1 (fileOf version1 rs) ≡ true
+  unfolding version1
+  file-framed1 = framed-back version1 rs (omega (arith, count-small w)) (omega arith)
+
+  pub file-rows1 : fileRows version1 (fileOf version1 rs) ≡ rs
+  file-rows1 = rows-of-file version1 rs (omega (arith, count-small w)) (rows-fit1 w s)
+
+-- two lists of rows that keep the rules, with no long column, and the same file: they are equal
+pub file-injective1 : {rs qs : List Row} → RowsRules 0 rs → someAbove 65535 rs ≡ false → RowsRules 0 qs → someAbove 65535 qs ≡ false
+    → fileOf version1 rs ≡ fileOf version1 qs → rs ≡ qs
+file-injective1 {rs} {qs} w s v t =
+    file-injective version1 rs qs (omega (arith, count-small w)) (omega (arith, count-small v)) (rows-fit1 w s) (rows-fit1 v t)

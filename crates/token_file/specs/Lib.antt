@@ -1,0 +1,4 @@
+pub mod Rules
+pub mod Format
+pub mod Fits
+pub mod Calls

@@ -1,0 +1,7 @@
+// Token files: a writer and a reader that are each other's inverse.
+pub mod layout;
+pub mod number;
+pub mod read;
+pub mod records;
+pub mod row;
+pub mod write;

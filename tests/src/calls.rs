@@ -1,0 +1,286 @@
+//! The calls of the C interface on a text, each with what it has to leave
+//! behind: its number, its answer, and all of its buffers.
+
+use std::fmt;
+
+use crate::ffi::{self, Buffers};
+use crate::notation::{escaped, joined};
+use crate::records::{self, numbers, Lent, Mode, Reading, Refusal, RECORD};
+use crate::token::Position;
+
+#[derive(Debug, Clone, Copy)]
+pub struct Setting {
+    /// 0 strict, 1 tolerant; any other number is read as strict.
+    pub mode: u8,
+    pub limit: u64,
+}
+
+impl Setting {
+    fn mode(self) -> Mode {
+        match self.mode {
+            1 => Mode::Tolerant,
+            _ => Mode::Strict,
+        }
+    }
+}
+
+/// What a call is given beside the text and the buffers.
+#[derive(Debug, Clone, Copy)]
+pub enum Call {
+    Text(Setting),
+    Token(Position, Setting),
+    Place(usize),
+}
+
+/// Which calls are made on a text.
+#[derive(Debug, Clone, Copy)]
+pub enum Depth {
+    /// The whole reading.
+    Whole,
+    /// Besides, one token and the place of every offset and beyond, and one
+    /// token from untrue places.
+    Everywhere,
+}
+
+/// What an accepted call gives and writes.
+struct Accepted {
+    answer: [i64; 6],
+    reading: Reading,
+}
+
+/// All that a call leaves behind.
+#[derive(PartialEq, Eq)]
+struct Outcome {
+    number: u8,
+    answer: [i64; 6],
+    buffers: Buffers,
+}
+
+/// A call whose outcome is not the expected one.
+pub struct Difference {
+    call: Call,
+    lent: Lent,
+    given: Outcome,
+    expected: Outcome,
+}
+
+/// Makes all calls of a depth, each with several lengths of buffers. Gives how
+/// many there were, or the first that differs.
+pub fn compare(text: &[u8], setting: Setting, depth: Depth) -> Result<u64, Box<Difference>> {
+    let mut compared = compare_call(text, Call::Text(setting))?;
+    if let Depth::Everywhere = depth {
+        for call in calls_everywhere(text, setting) {
+            compared += compare_call(text, call)?;
+        }
+    }
+    Ok(compared)
+}
+
+pub fn compare_call(text: &[u8], call: Call) -> Result<u64, Box<Difference>> {
+    let from_rust = call.ask_rust(text);
+    let rooms = call.rooms(&from_rust);
+    for &lent in &rooms {
+        let given = call.make(text, lent);
+        let expected = expected(&from_rust, lent);
+        if given != expected {
+            return Err(Box::new(Difference {
+                call,
+                lent,
+                given,
+                expected,
+            }));
+        }
+    }
+    Ok(rooms.len() as u64)
+}
+
+/// A number with this added is untrue, and true again where it is cut to 32
+/// bits.
+const WRAP: usize = 1 << 32;
+
+fn calls_everywhere(text: &[u8], setting: Setting) -> Vec<Call> {
+    let mut calls = Vec::new();
+    let mut place = Position::with_offset(1, 1, 0);
+    for offset in 0..text.len() + 3 {
+        let Position { line, column, .. } = place;
+        for offset in [offset, offset + WRAP] {
+            calls.push(Call::Place(offset));
+            let place = Position::with_offset(line, column, offset);
+            calls.push(Call::Token(place, setting));
+        }
+        let wrong = |number: usize| [number - 1, number + 1, number + WRAP, usize::MAX];
+        let lines = wrong(line).map(|line| Position { line, ..place });
+        let columns = wrong(column).map(|column| Position { column, ..place });
+        for untrue in lines.into_iter().chain(columns) {
+            calls.push(Call::Token(untrue, setting));
+        }
+        place = match text.get(offset) {
+            Some(b'\n') => Position::with_offset(line + 1, 1, offset + 1),
+            _ => Position::with_offset(line, column + 1, offset + 1),
+        };
+    }
+    for far in [1 << 31, i64::MAX as usize, 1 << 63, usize::MAX] {
+        calls.push(Call::Place(far));
+        calls.push(Call::Token(Position::with_offset(1, 1, far), setting));
+    }
+    calls
+}
+
+impl Call {
+    /// What document 01 has, taken from the Rust, with ample buffers.
+    fn ask_rust(self, text: &[u8]) -> Result<Accepted, Refusal> {
+        let (rest, reading) = match self {
+            Call::Text(setting) => {
+                let (mode, limit) = (setting.mode(), setting.limit);
+                let reading = records::read_text(text, mode, limit, Lent::AMPLE)?;
+                ([0; 3], reading)
+            }
+            Call::Token(place, setting) => {
+                let (mode, limit) = (setting.mode(), setting.limit);
+                let (reading, end) = records::read_token(text, place, mode, limit, Lent::AMPLE)?;
+                (numbers(end), reading)
+            }
+            Call::Place(offset) => {
+                let [offset, line, column] = numbers(records::place_of(text, offset)?);
+                return Ok(Accepted {
+                    answer: [offset, line, column, 0, 0, 0],
+                    reading: Reading::default(),
+                });
+            }
+        };
+        let counts = [
+            reading.records.len(),
+            reading.strings.len(),
+            reading.reports.len(),
+        ];
+        let [tokens, strings, reports] = counts.map(|count| count as i64);
+        let [offset, line, column] = rest;
+        Ok(Accepted {
+            answer: [tokens, strings, reports, offset, line, column],
+            reading,
+        })
+    }
+
+    /// The lengths of buffers to try: exact, generous, none, and each and
+    /// several of them one short.
+    fn rooms(self, from_rust: &Result<Accepted, Refusal>) -> Vec<Lent> {
+        if let Call::Place(_) = self {
+            return vec![Lent::NONE];
+        }
+        let exact = from_rust
+            .as_ref()
+            .map_or(Lent::NONE, |accepted| accepted.reading.exact());
+        let generous = Lent {
+            tokens: exact.tokens + RECORD + 1,
+            strings: exact.strings + 3,
+            reports: exact.reports + 6,
+        };
+        let mut rooms = vec![exact, generous];
+        if exact.tokens > 0 {
+            rooms.push(Lent::NONE);
+        }
+        for short in 1..8 {
+            let less = |length: usize, bit: usize| length.checked_sub(short >> bit & 1);
+            if let (Some(tokens), Some(strings), Some(reports)) = (
+                less(exact.tokens, 0),
+                less(exact.strings, 1),
+                less(exact.reports, 2),
+            ) {
+                rooms.push(Lent {
+                    tokens,
+                    strings,
+                    reports,
+                });
+            }
+        }
+        rooms
+    }
+
+    /// Calls the proved library.
+    fn make(self, text: &[u8], lent: Lent) -> Outcome {
+        let mut buffers = Buffers::untouched(lent);
+        let mut answer = [Buffers::UNTOUCHED; 6];
+        let number = match self {
+            Call::Text(Setting { mode, limit }) => {
+                ffi::read_text(text, mode, limit, &mut buffers, &mut answer)
+            }
+            Call::Token(place, Setting { mode, limit }) => {
+                ffi::read_token(text, place, mode, limit, &mut buffers, &mut answer)
+            }
+            Call::Place(offset) => ffi::place_of(text, offset, &mut answer),
+        };
+        Outcome {
+            number,
+            answer,
+            buffers,
+        }
+    }
+}
+
+/// The outcome with buffers of these lengths: a result that fits is at their
+/// beginning, and nothing else is touched.
+fn expected(from_rust: &Result<Accepted, Refusal>, lent: Lent) -> Outcome {
+    let mut buffers = Buffers::untouched(lent);
+    let fitting = match from_rust {
+        Ok(accepted) => accepted.reading.fits(lent).map(|()| accepted),
+        Err(refusal) => Err(*refusal),
+    };
+    let (number, answer) = match fitting {
+        Ok(Accepted { answer, reading }) => {
+            let exact = reading.exact();
+            buffers.tokens[..exact.tokens].copy_from_slice(reading.records.as_flattened());
+            buffers.strings[..exact.strings].copy_from_slice(&reading.strings);
+            buffers.reports[..exact.reports].copy_from_slice(reading.reports.as_flattened());
+            (0, *answer)
+        }
+        Err(Refusal { number, offset }) => (number, [offset as i64, 0, 0, 0, 0, 0]),
+    };
+    Outcome {
+        number,
+        answer,
+        buffers,
+    }
+}
+
+impl fmt::Display for Difference {
+    fn fmt(&self, f: &mut fmt::Formatter<'_>) -> fmt::Result {
+        let Lent {
+            tokens,
+            strings,
+            reports,
+        } = self.lent;
+        writeln!(f, "  {:?}", self.call)?;
+        writeln!(
+            f,
+            "  lent: {tokens} numbers, {strings} bytes, {reports} numbers"
+        )?;
+        write!(f, "  proved: {}", self.given)?;
+        write!(f, "  expected: {}", self.expected)
+    }
+}
+
+impl fmt::Display for Outcome {
+    fn fmt(&self, f: &mut fmt::Formatter<'_>) -> fmt::Result {
+        writeln!(f, "{}, answer {}", self.number, shown(&self.answer))?;
+        for token in self.buffers.tokens.chunks(RECORD) {
+            writeln!(f, "    token {}", shown(token))?;
+        }
+        writeln!(f, "    strings {}", escaped(&self.buffers.strings))?;
+        for report in self.buffers.reports.chunks(5) {
+            writeln!(f, "    report {}", shown(report))?;
+        }
+        Ok(())
+    }
+}
+
+/// Numbers, with `_` for each that was not touched.
+fn shown(numbers: &[i64]) -> String {
+    let words: Vec<String> = numbers
+        .iter()
+        .map(|&number| match number {
+            Buffers::UNTOUCHED => "_".to_string(),
+            _ => number.to_string(),
+        })
+        .collect();
+    joined(&words)
+}

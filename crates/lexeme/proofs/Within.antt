@@ -4,6 +4,7 @@ use Prim.Native.Nat.{ℕ, _+_, _≤_, _<_}
 use mathlib.Core.List.{List}
 use native.Mathlib.Omega.{arith}
 use lib.ListN.{length}
+use Rattle.base.specs.Bytes.{AreBytes}
 use Rattle.token.specs.declared.kind.TokenKind.{TokenKind}
 use Rattle.lexeme.specs.Lexeme.{extent, whole, bare, illegal}
 use Rattle.lexeme.specs.declared.Lexeme.{Lexeme}
@@ -15,13 +16,13 @@ pub record Within (s : List ℕ) (r : Lexeme) : Type 0 where
   pub precision-in : r .precision + r .digits ≤ r .len
   pub reports-in : r .reports ≤ r .len
   pub reason-in : r .reason ≤ 18
-  pub detail-in : r .detail < 0x200000
+  pub detail-in : AreBytes s → r .detail < 0x200000
 
 -- the makers' answers
 module _ (s : List ℕ) (k : TokenKind) (n : ℕ) (h : 0 < n) (e : n ≤ length s) where
   pub extent-within : (v size reports : ℕ) → v + size ≤ n → reports ≤ n → Within s (extent k n v size reports)
   extent-within v size reports i j =
-      record { some = h; ends = e; value-in = i; precision-in = omega arith; reports-in = j; reason-in = omega arith; detail-in = omega arith }
+      record { some = h; ends = e; value-in = i; precision-in = omega arith; reports-in = j; reason-in = omega arith; detail-in = λ _. omega arith }
 
   pub whole-within : Within s (whole k n)
   whole-within = extent-within 0 n 0 (omega arith) (omega arith)
@@ -29,6 +30,6 @@ module _ (s : List ℕ) (k : TokenKind) (n : ℕ) (h : 0 < n) (e : n ≤ length 
   pub bare-within : Within s (bare k n)
   bare-within = extent-within n 0 0 (omega arith) (omega arith)
 
-pub illegal-within : (s : List ℕ) (r d n : ℕ) → 0 < n → n ≤ length s → r ≤ 18 → d < 0x200000 → Within s (illegal r d n)
+pub illegal-within : (s : List ℕ) (r d n : ℕ) → 0 < n → n ≤ length s → r ≤ 18 → (AreBytes s → d < 0x200000) → Within s (illegal r d n)
 illegal-within s r d n h e i j =
     record { some = h; ends = e; value-in = omega arith; precision-in = omega arith; reports-in = omega arith; reason-in = i; detail-in = j }

@@ -1,8 +1,10 @@
--- Each kind's number is at most 25, and only Eof has 0. By cases on the kind. Assumes nothing.
-use mathlib.Core.Path.{_≡_, refl}
+-- Each kind's number is at most 25, and no two kinds have one number: `kindAt` is a left inverse of `kindNumber`. By cases on the kind.
+-- Assumes nothing.
+use mathlib.Core.Path.{_≡_, refl, sym, ap, _∙_}
+use mathlib.Core.List.{List, [], _∷_}
 use Prim.Native.Nat.{ℕ, _≤_}
-use native.Mathlib.Omega.{arith}
 use lib.Dec.{lit≤}
+use lib.ListN.{getD}
 use Rattle.token.specs.Kind.{kindNumber}
 use Rattle.token.specs.declared.kind.TokenKind.{TokenKind}
 use Rattle.token.specs.declared.kind.TokenKind.the-variants as K
@@ -36,31 +38,44 @@ number-le K.AtDirective = lit≤ tt
 number-le K.AtDataset = lit≤ tt
 number-le K.AtProto = lit≤ tt
 
-pub number-zero : (k : TokenKind) → kindNumber k ≡ 0 → k ≡ K.Eof
+-- the kinds in the order of their numbers
+abbrev kinds : List TokenKind
+kinds =
+    K.Eof ∷ K.Illegal ∷ K.Newline ∷ K.Comment ∷ K.Ident ∷ K.String ∷ K.Int ∷ K.Float ∷ K.Bool ∷ K.Null ∷ K.Bytes ∷ K.Timestamp ∷ K.Duration
+    ∷ K.LBrace ∷ K.RBrace ∷ K.LBracket ∷ K.RBracket ∷ K.LParen ∷ K.RParen ∷ K.Equals ∷ K.Colon ∷ K.Comma ∷ K.AtType ∷ K.AtDirective
+    ∷ K.AtDataset ∷ K.AtProto ∷ []
+
+abbrev pub kindAt : ℕ → TokenKind
+kindAt n = getD kinds n K.Eof
+
+number-at : (k : TokenKind) → kindAt (kindNumber k) ≡ k
 unfolding kindNumber
-number-zero K.Eof e = refl
-number-zero K.Illegal e = absurd (omega arith)
-number-zero K.Newline e = absurd (omega arith)
-number-zero K.Comment e = absurd (omega arith)
-number-zero K.Ident e = absurd (omega arith)
-number-zero K.String e = absurd (omega arith)
-number-zero K.Int e = absurd (omega arith)
-number-zero K.Float e = absurd (omega arith)
-number-zero K.Bool e = absurd (omega arith)
-number-zero K.Null e = absurd (omega arith)
-number-zero K.Bytes e = absurd (omega arith)
-number-zero K.Timestamp e = absurd (omega arith)
-number-zero K.Duration e = absurd (omega arith)
-number-zero K.LBrace e = absurd (omega arith)
-number-zero K.RBrace e = absurd (omega arith)
-number-zero K.LBracket e = absurd (omega arith)
-number-zero K.RBracket e = absurd (omega arith)
-number-zero K.LParen e = absurd (omega arith)
-number-zero K.RParen e = absurd (omega arith)
-number-zero K.Equals e = absurd (omega arith)
-number-zero K.Colon e = absurd (omega arith)
-number-zero K.Comma e = absurd (omega arith)
-number-zero K.AtType e = absurd (omega arith)
-number-zero K.AtDirective e = absurd (omega arith)
-number-zero K.AtDataset e = absurd (omega arith)
-number-zero K.AtProto e = absurd (omega arith)
+number-at K.Eof = refl
+number-at K.Illegal = refl
+number-at K.Newline = refl
+number-at K.Comment = refl
+number-at K.Ident = refl
+number-at K.String = refl
+number-at K.Int = refl
+number-at K.Float = refl
+number-at K.Bool = refl
+number-at K.Null = refl
+number-at K.Bytes = refl
+number-at K.Timestamp = refl
+number-at K.Duration = refl
+number-at K.LBrace = refl
+number-at K.RBrace = refl
+number-at K.LBracket = refl
+number-at K.RBracket = refl
+number-at K.LParen = refl
+number-at K.RParen = refl
+number-at K.Equals = refl
+number-at K.Colon = refl
+number-at K.Comma = refl
+number-at K.AtType = refl
+number-at K.AtDirective = refl
+number-at K.AtDataset = refl
+number-at K.AtProto = refl
+
+pub number-kind : (k : TokenKind) (n : ℕ) → kindNumber k ≡ n → k ≡ kindAt n
+number-kind k n e = sym (number-at k) ∙ ap kindAt e

@@ -29,7 +29,7 @@ pub enum Written {
 
 impl Written {
     // The answer's number: 0 where the call is accepted.
-    pub fn number(self) -> u32
+    pub fn number(self) -> u8
         ensures { λ r. ⌜ r ≡ writtenNumber self ⌝ }
     {
         match self {

@@ -33,7 +33,7 @@ fn show_numbers(t: &[i64]) {
     io::write_all(1, b"\n");
 }
 
-fn show_answer(number: u32, value: usize) {
+fn show_answer(number: u8, value: usize) {
     io::print_decimal(1, number as u64);
     io::write_all(1, b" ");
     io::print_decimal(1, value as u64);

@@ -76,7 +76,7 @@ module _ (s : List ℕ) where
 -- ---- the numbers are in bounds
 
 open-within : (m : Mode) (s : List ℕ) → 3 ≤ length s → Within s (openTriple m s)
-open-within Strict s h = illegal-within s 12 0 (openTripleEnd s) (omega (arith, open-ge s h)) (open-le s h) (omega arith) (omega arith)
+open-within Strict s h = illegal-within s 12 0 (openTripleEnd s) (omega (arith, open-ge s h)) (open-le s h) (omega arith) (λ _. omega arith)
 open-within Tolerant s h =
     extent-within s K.String (length s) (omega arith) (omega arith) 0 (length (dedent (rawBytes s))) 1
     (omega (arith, value-le s h, raw-le s h)) (omega arith)

@@ -7,6 +7,7 @@ pub mod Boundaries
 pub mod Leads
 pub mod Sizes
 pub mod States
+pub mod Settles
 pub mod Scans
 pub mod Codes
 pub mod RoundTrip

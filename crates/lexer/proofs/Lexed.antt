@@ -1,0 +1,194 @@
+-- What is known of the token at the front of a text that is not at its end: by cases on its class, from what each lexer's laws say.
+-- Assumes nothing.
+use mathlib.Core.Path.{_≡_, refl, sym, ap, _∙_, subst}
+use mathlib.Core.Bool.{Bool, true, false}
+use mathlib.Core.Logic.{⊎-elim, _⊎_, inl, inr}
+use mathlib.Core.List.{List, [], _∷_, List·Memᴰ, List·Memᴰ·head, List·Memᴰ·tail, List·Memᴰ·not-nil}
+use Prim.Native.Nat.{ℕ, zero, suc, _+_, _≤_, _<_}
+use native.Mathlib.Omega.{arith}
+use lib.Dec.{eqb, lit<}
+use lib.ListN.{length, take}
+use borrow.Author.Tests.{eq-eqb, ne-eqb}
+use Rattle.base.specs.Bytes.{byte}
+use Rattle.base.specs.Classes.{isDigit, isIdentStart}
+use Rattle.base.proofs.Tests.{in-text, pick-case}
+use Rattle.utf8.specs.Grammar as octets
+use Rattle.utf8.specs.Grammar.{Boundary, Octets}
+use Rattle.utf8.proofs.Boundaries.{ascii-boundary, boundary-rest}
+use Rattle.go_duration.specs.Written.{SumOfParts}
+use Rattle.go_duration.proofs.WrittenSums.{sum-of-parts}
+use Rattle.token.specs.Kind.{kindNumber}
+use Rattle.token.proofs.KindNumbers.{number-kind}
+use Rattle.token.specs.declared.kind.TokenKind.{TokenKind}
+use Rattle.token.specs.declared.kind.TokenKind.the-variants as K
+use Rattle.lexeme.specs.Lexeme.{bare, whole, Note}
+use Rattle.lexeme.specs.declared.Lexeme.{Lexeme}
+use Rattle.lexeme.specs.declared.Mode.{Mode}
+use Rattle.lexeme.specs.declared.Mode.the-variants.{Strict, Tolerant}
+use Rattle.lexeme.proofs.Within.{Within, whole-within, bare-within}
+use Rattle.scan.specs.Comment.{lexLineComment, lexBlockComment, blockNotes}
+use Rattle.scan.specs.Name.{lexIdent, lexDirective}
+use Rattle.scan.specs.Number.{lexSigned, lexUnsigned}
+use Rattle.scan.specs.Bytes.{lexBytes, bytesNotes}
+use Rattle.scan.specs.Other.{lexOther}
+use Rattle.scan.proofs.Silent.{line-silent, ident-silent, other-silent, directive-silent, unsigned-silent, signed-silent}
+use Rattle.scan.proofs.Scanned.{Plain, plain, Scanned, Ends, whole-scanned, extent-scanned}
+use Rattle.scan.proofs.Comments.{line-scanned, block-scanned, block-notes-size, block-notes-start}
+use Rattle.scan.proofs.Names.{ident-scanned, directive-scanned}
+use Rattle.scan.proofs.Numbers.{signed-scanned, unsigned-scanned}
+use Rattle.scan.proofs.Literals.{bytes-scanned, bytes-notes-size, bytes-notes-start}
+use Rattle.scan.proofs.Others.{other-scanned}
+use Rattle.strings.proofs.Laws.{NoteIn, string-within, string-kind, string-size, string-notes-size, illegal-bytes, notes-in, string-utf8, string-boundary}
+use Rattle.strings.specs.Literal.{lexString, stringBytes, stringNotes}
+use Rattle.triple_strings.specs.Triple.{quotes, closed, openTriple, lexTripleString, tripleBytes, tripleNotes}
+use Rattle.triple_strings.proofs.QuoteSearch.{quotes-long}
+use Rattle.triple_strings.proofs.Triples.{triple-within, triple-size, triple-boundary}
+use Rattle.triple_strings.proofs.ValueOctets.{triple-utf8}
+use Rattle.lexer.specs.Lexer.{classAt, lexBy, lexemeOf, stringBy, stringOf, notesBy, notesOf}
+use Rattle.lexer.specs.Token.{stringSize}
+use Rattle.lexer.specs.declared.class.Class.{Class}
+use Rattle.lexer.specs.declared.class.Class.the-variants as C
+use Rattle.lexer.proofs.Knows.{Knows, Mark, lBrace, rBrace, lBracket, rBracket, lParen, rParen, equals, colon, comma, knows-at}
+
+-- each report of a list stands within n bytes of the token's start
+pub data NotesIn (n : ℕ) : List Note → Type 0 where
+  none : NotesIn n []
+  more : {x : Note} {xs : List Note} → x .offset ≤ n → NotesIn n xs → NotesIn n (x ∷ xs)
+
+notes-all : (n : ℕ) (xs : List Note) → ((x : Note) → List·Memᴰ x xs → x .offset ≤ n) → NotesIn n xs
+notes-all n [] f = none
+notes-all n (x ∷ xs) f = more (f x (List·Memᴰ·head refl)) (notes-all n xs (λ y i. f y (List·Memᴰ·tail i)))
+
+-- what is known of a token at the front of s, of the bytes of its string and of its reports
+pub record Facts (s : List ℕ) (r : Lexeme) (bytes : List ℕ) (ns : List Note) : Type 0 where
+  pub within : Within s r
+  pub not-eof : r .kind ≡ K.Eof → ⊥
+  pub string : length bytes ≡ stringSize (r .kind) (r .size)
+  pub notes : length ns ≡ r .reports
+  pub notes-in : NotesIn (length s) ns
+  pub duration : r .kind ≡ K.Duration → SumOfParts (take (r .len) s) (r .nanos)
+  pub boundary : Boundary s 0 → Boundary s (r .len)
+  pub utf8 : Boundary s 0 → Octets bytes
+
+-- a kind that is no String lays nothing into the string buffer
+other-size : (k : TokenKind) (n : ℕ) → (k ≡ K.String → ⊥) → stringSize k n ≡ 0
+unfolding stringSize
+other-size k n f = rw (ne-eqb (kindNumber k) 5 (λ e. f (number-kind k 5 e)))
+
+string-is : (k : TokenKind) (n : ℕ) → k ≡ K.String → stringSize k n ≡ n
+unfolding stringSize kindNumber
+string-is k n e = rw e
+
+-- what a lexer of `scan` finds, with its reports
+scanned-facts : (s : List ℕ) (r : Lexeme) (ns : List Note) → Scanned s r → length ns ≡ r .reports → ((x : Note) → List·Memᴰ x ns → x .offset ≡ 0)
+    → Facts s r [] ns
+scanned-facts s r ns c e f =
+    record {
+      within = c .within;
+      not-eof = c .not-eof;
+      string = sym (other-size (r .kind) (r .size) (c .not-string));
+      notes = e;
+      notes-in = notes-all (length s) ns (λ x i. omega (arith, f x i));
+      duration = λ q. let d = c .duration q in sum-of-parts (take (r .len) s) (r .nanos) (d .value) (d .no-plus) (d .not-zero);
+      boundary = c .boundary;
+      utf8 = λ _. octets.none;
+    }
+
+-- one that makes no report
+silent-facts : (s : List ℕ) (r : Lexeme) → Scanned s r → r .reports ≡ 0 → Facts s r [] []
+silent-facts s r c e = scanned-facts s r [] c (sym e) (λ x i. absurd (List·Memᴰ·not-nil i))
+
+-- what a literal of the two string lexers finds
+literal-facts : (s : List ℕ) (r : Lexeme) (bytes : List ℕ) (ns : List Note) → Within s r → (r .kind ≡ K.String) ⊎ (r .kind ≡ K.Illegal)
+    → length bytes ≡ r .size → (r .kind ≡ K.Illegal → bytes ≡ []) → length ns ≡ r .reports → NotesIn (length s) ns
+    → (Boundary s 0 → Boundary s (r .len)) → (Boundary s 0 → Octets bytes) → Facts s r bytes ns
+unfolding kindNumber
+literal-facts s r bytes ns w k e f n i b u =
+    record {
+      within = w;
+      not-eof = λ q. ⊎-elim (λ p. absurd (omega (arith, ap kindNumber (sym p ∙ q)))) (λ p. absurd (omega (arith, ap kindNumber (sym p ∙ q)))) k;
+      string =
+          ⊎-elim (λ p. e ∙ sym (string-is (r .kind) (r .size) p))
+          (λ p. ap length (f p) ∙ sym (other-size (r .kind) (r .size) (λ q. absurd (omega (arith, ap kindNumber (sym p ∙ q)))))) k;
+      notes = n;
+      notes-in = i;
+      duration = λ q. ⊎-elim (λ p. absurd (omega (arith, ap kindNumber (sym p ∙ q)))) (λ p. absurd (omega (arith, ap kindNumber (sym p ∙ q)))) k;
+      boundary = b;
+      utf8 = u;
+    }
+
+-- where a byte that is not 0 stands, the text has it
+byte-in : (s : List ℕ) (i n : ℕ) → 0 < n → byte s i ≡ n → i < length s
+byte-in s i n h e = in-text (λ x. eqb x n) s i (ne-eqb 0 n (λ q. absurd (omega arith))) (eq-eqb (byte s i) n e)
+
+-- a mark of one byte is ASCII, and a kind of its own
+mark-ascii : {a : ℕ} {k : TokenKind} → Mark a k → a < 0x80
+mark-ascii lBrace = lit< tt
+mark-ascii rBrace = lit< tt
+mark-ascii lBracket = lit< tt
+mark-ascii rBracket = lit< tt
+mark-ascii lParen = lit< tt
+mark-ascii rParen = lit< tt
+mark-ascii equals = lit< tt
+mark-ascii colon = lit< tt
+mark-ascii comma = lit< tt
+
+mark-plain : {a : ℕ} {k : TokenKind} → Mark a k → Plain k
+unfolding kindNumber
+mark-plain lBrace = plain K.LBrace refl
+mark-plain rBrace = plain K.RBrace refl
+mark-plain lBracket = plain K.LBracket refl
+mark-plain rBracket = plain K.RBracket refl
+mark-plain lParen = plain K.LParen refl
+mark-plain rParen = plain K.RParen refl
+mark-plain equals = plain K.Equals refl
+mark-plain colon = plain K.Colon refl
+mark-plain comma = plain K.Comma refl
+
+-- the first byte is an ASCII byte, and the token is that byte
+one-byte : (s : List ℕ) → 0 < length s → byte s 0 < 0x80 → Ends s 1
+one-byte s h a = record { some = omega arith; inside = h; between = ascii-boundary s 0 h a }
+
+pub triple-kind : (m : Mode) (s : List ℕ) → (lexTripleString m s .kind ≡ K.String) ⊎ (lexTripleString m s .kind ≡ K.Illegal)
+unfolding lexTripleString
+triple-kind m s = pick-case (λ (r : Lexeme). (r .kind ≡ K.String) ⊎ (r .kind ≡ K.Illegal)) (closed s) (λ _. inl refl) (λ _. go m)
+  where
+    go : (n : Mode) → (openTriple n s .kind ≡ K.String) ⊎ (openTriple n s .kind ≡ K.Illegal)
+    go Strict = inr refl
+    go Tolerant = inl refl
+
+module _ (m : Mode) (limit : ℕ) (s : List ℕ) (h : 0 < length s) where
+  mark-facts : (k : TokenKind) → Mark (byte s 0) k → Facts s (whole k 1) [] []
+  mark-facts k q = silent-facts s (whole k 1) (whole-scanned s 1 (one-byte s h (mark-ascii q)) k (mark-plain q)) refl
+
+  pub by-class : (k : Class) → Knows (byte s 0) (byte s 1) (byte s 2) k → Facts s (lexBy k m limit s) (stringBy k m s) (notesBy k m limit s)
+  unfolding lexBy stringBy notesBy quotes kindNumber isIdentStart
+  by-class C.Newline q =
+      silent-facts s (bare K.Newline 1)
+      (extent-scanned s 1 (one-byte s h (omega arith)) K.Newline 1 0 0 (plain K.Newline refl) (omega arith) (omega arith)) refl
+  by-class C.LineComment q = silent-facts s (lexLineComment s) (line-scanned s h (ne-eqb (byte s 0) 10 (λ e. ⊎-elim (λ a. absurd (omega arith)) (λ a. absurd (omega (arith, a .0))) q))) (line-silent s)
+  by-class C.BlockComment q = scanned-facts s (lexBlockComment m s) (blockNotes m s) (block-scanned s (byte-in s 1 42 (omega arith) (q .1)) m) (block-notes-size m s) (block-notes-start m s)
+  by-class C.Triple q =
+      let z : quotes s ≡ true = rw (q .0, q .1 .0, q .1 .1) in
+      let c = triple-size m s in
+      literal-facts s (lexTripleString m s) (tripleBytes m s) (tripleNotes m s) (triple-within m s (quotes-long s z)) (triple-kind m s) (c .bytes-counted)
+      (c .illegal-none) (c .notes-counted) (notes-all (length s) (tripleNotes m s) (λ x i. omega (arith, c .at-start x i)))
+      (λ b. triple-boundary m s b z) (λ b. triple-utf8 m s (boundary-rest s 0 b) z)
+  by-class C.Quote q =
+      literal-facts s (lexString m s) (stringBytes m s) (stringNotes m s) (string-within m s h) (string-kind m s) (string-size m s) (illegal-bytes m s)
+      (string-notes-size m s) (notes-all (length s) (stringNotes m s) (λ x i. notes-in m s h x i .offset-in)) (λ b. string-boundary m s h b) (λ b. string-utf8 m s)
+  by-class C.Bytes q = scanned-facts s (lexBytes m limit s) (bytesNotes m limit s) (bytes-scanned s (byte-in s 1 34 (omega arith) (q .1)) m limit) (bytes-notes-size m limit s) (bytes-notes-start m limit s)
+  by-class (C.Single k) q = mark-facts k q
+  by-class C.Directive q = silent-facts s (lexDirective s) (directive-scanned s h (omega arith)) (directive-silent s)
+  by-class C.Signed q = silent-facts s (lexSigned s) (signed-scanned s (⊎-elim (λ e. rw e) (λ e. rw e) q)) (signed-silent s)
+  by-class C.Unsigned q = silent-facts s (lexUnsigned s) (unsigned-scanned s q) (unsigned-silent s)
+  by-class C.Name q = silent-facts s (lexIdent s) (ident-scanned s (⊎-elim (λ e. rw e) (λ e. e) q)) (ident-silent s)
+  by-class C.Other q = silent-facts s (lexOther s) (other-scanned s h) (other-silent s)
+
+-- what is known of the token at the front of a text that is not at its end
+abbrev pub Lexed : Mode → ℕ → List ℕ → Lexeme → Type 0
+Lexed m limit s r = Facts s r (stringOf m s) (notesOf m limit s)
+
+pub lexed : (m : Mode) (limit : ℕ) (s : List ℕ) → 0 < length s → Lexed m limit s (lexemeOf m limit s)
+unfolding lexemeOf stringOf notesOf
+lexed m limit s h = rw (ne-eqb (length s) 0 (λ e. absurd (omega arith))) (by-class m limit s h (classAt s) (knows-at s))

@@ -1,0 +1,4 @@
+pub mod Knows
+pub mod Lexed
+pub mod Founds
+pub mod Puts

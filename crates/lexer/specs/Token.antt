@@ -1,0 +1,69 @@
+-- The next token from an offset of the text, with its places: document 01, "Places and records".
+use mathlib.Core.Bool.{Bool}
+use mathlib.Core.List.{List}
+use Prim.Native.Nat.{ℕ, _+_, _≤_, _<_}
+use lib.Dec.{eqb}
+use lib.ListN.{length, drop}
+use Rattle.base.specs.Choice.{pick}
+use Rattle.base.specs.Classes.{isSpace}
+use Rattle.base.specs.Runs.{reach}
+use Rattle.token.specs.Kind.{kindNumber}
+use Rattle.token.specs.Place.{placeAt, Walkable}
+use Rattle.token.specs.declared.place.Place.{Place}
+use Rattle.token.specs.declared.kind.TokenKind.{TokenKind}
+use Rattle.lexeme.specs.declared.Lexeme.{Lexeme}
+use Rattle.lexeme.specs.declared.Mode.{Mode}
+use Rattle.lexeme.specs.Reports.{notesNumbers}
+use Rattle.lexer.specs.Lexer.{lexemeOf, notesOf}
+use Rattle.lexer.specs.declared.next.Found.{Found}
+use Rattle.lexer.specs.declared.next.Token.{Token}
+
+-- `skip_spaces`: a blank; what follows it does not count
+abbrev pub inBlanks : ℕ → ℕ → Bool
+inBlanks a b = isSpace a
+
+-- where the token after an offset starts: past the blanks
+unfoldable pub startAt : List ℕ → ℕ → ℕ
+startAt text at = reach inBlanks text at
+
+-- the token after an offset, relative to its start
+unfoldable pub foundAt : Mode → ℕ → List ℕ → ℕ → Found
+foundAt m limit text at = record { start = startAt text at; lexeme = lexemeOf m limit (drop (startAt text at) text) }
+
+-- where it ends
+abbrev pub endOf : Found → ℕ
+endOf f = f .start + f .lexeme .len
+
+-- it with its places in the text; a String's value place is put in where its buffer is known
+abbrev pub tokenOf : List ℕ → Found → Token
+tokenOf text f =
+    record {
+      kind = f .lexeme .kind;
+      reason = f .lexeme .reason;
+      detail = f .lexeme .detail;
+      start = placeAt text (f .start);
+      end = placeAt text (endOf f);
+      value = f .start + f .lexeme .value;
+      size = f .lexeme .size;
+      precision = pick (eqb (f .lexeme .digits) 0) 0 (f .start + f .lexeme .precision);
+      digits = f .lexeme .digits;
+      nanos = f .lexeme .nanos;
+      reports = f .lexeme .reports;
+    }
+
+unfoldable pub nextToken : Mode → ℕ → List ℕ → ℕ → Token
+nextToken m limit text at = tokenOf text (foundAt m limit text at)
+
+-- the kind's number is String's
+abbrev pub isString : TokenKind → Bool
+isString k = eqb (kindNumber k) 5
+
+-- how many bytes a token of the kind and value length lays into the string buffer
+unfoldable pub stringSize : TokenKind → ℕ → ℕ
+stringSize k n = pick (isString k) n 0
+
+-- a place of a text that is read, at which a token with reports starts, and room for these
+pub record ReportRoom (m : Mode) (limit : ℕ) (text : List ℕ) (start : Place) (room at : ℕ) : Type 0 where
+  pub walkable : Walkable text start (start .offset)
+  pub some : 0 < length (notesOf m limit (drop (start .offset) text))
+  pub fits : at + length (notesNumbers text (start .offset) (notesOf m limit (drop (start .offset) text))) ≤ room

@@ -1,0 +1,69 @@
+// What a token lays into the string buffer and the report slice.
+ghost use mathlib.Core.Path.{_≡_};
+ghost use Prim.Native.Nat.{_+_, _≤_, _<_};
+ghost use lib.ListN.{length, drop};
+ghost use lib.Seq.{sets};
+ghost use Rattle.token.specs.Layout.{reportWidth};
+ghost use Rattle.token.specs.Place.{Walkable};
+ghost use Rattle.lexeme.specs.Lexeme.{noteAtStart};
+ghost use Rattle.lexeme.specs.Reports.{notesNumbers};
+ghost use mathlib.Core.List.{[], _∷_};
+ghost use Rattle.lexer.specs.Lexer.{stringOf, notesOf};
+ghost use Rattle.lexer.specs.Token.{ReportRoom};
+use crate::class::Class;
+use crate::class::classify;
+use base::peek;
+use lexeme::Mode;
+use lexeme::put_report;
+use scan::bytes::bytes_reason;
+use strings::notes::put_string_notes;
+use token::place::Place;
+use triple_strings::lex::put_triple_string;
+use triple_strings::quotes::at_quotes;
+
+// Writes the decoded bytes of the String at the front of a text.
+pub fn put_string(s: &[u8], mode: Mode, out: &mut [u8], place: usize)
+    requires { ⌜ (0 < length (stringOf mode (now s))) × (place + length (stringOf mode (now s)) ≤ length (now out)) ⌝ }
+    ensures { λ r. ⌜ now (out .exit) ≡ sets (now (out .entry)) place (stringOf mode (now (s .entry))) ⌝ }
+{
+    if at_quotes(s) {
+        put_triple_string(s, out, place);
+        return;
+    }
+    strings::lex::put_string(s, mode, out, place);
+}
+
+// Writes a report at the place where a token starts.
+fn put_at_start(text: &[u8], start: Place, reason: usize, out: &mut [i64], at: usize)
+    requires { ⌜ Walkable (now text) start (start .offset) × (reason ≤ 20) × (at + reportWidth ≤ length (now out)) ⌝ }
+    ensures { λ r. ⌜ now (out .exit) ≡ sets (now (out .entry)) at (notesNumbers (now (text .entry)) (start .offset) (noteAtStart reason ∷ [])) ⌝ }
+{
+    put_report(start, reason, 0, out, at);
+}
+
+// Writes the reports of the token that starts at a place of the text, of which there are some.
+pub fn put_reports(text: &[u8], start: Place, mode: Mode, limit: usize, out: &mut [i64], at: usize)
+    requires { ⌜ ReportRoom mode limit (now text) start (length (now out)) at ⌝ }
+    ensures { λ r. ⌜ now (out .exit) ≡ sets (now (out .entry)) at (notesNumbers (now (text .entry)) (start .offset) (notesOf mode limit (drop (start .offset) (now (text .entry))))) ⌝ }
+{
+    let first = start.offset;
+    let s = &text[first..];
+    let class = classify(peek(s, 0), peek(s, 1), peek(s, 2));
+    match class {
+        Class::BlockComment => put_at_start(text, start, 2, out, at),
+        Class::Triple => put_at_start(text, start, 12, out, at),
+        Class::Bytes => {
+            let reason = bytes_reason(s, limit);
+            put_at_start(text, start, reason, out, at);
+        }
+        Class::Quote => put_string_notes(text, start, mode, out, at),
+        Class::Newline => (),
+        Class::LineComment => (),
+        Class::Single(_) => (),
+        Class::Directive => (),
+        Class::Signed => (),
+        Class::Unsigned => (),
+        Class::Name => (),
+        Class::Other => (),
+    }
+}

@@ -1,0 +1,11 @@
+pub mod Runs
+pub mod Stops
+pub mod Goes
+pub mod Scanned
+pub mod Comments
+pub mod Numbers
+pub mod Names
+pub mod Literals
+pub mod Others
+pub mod Examples
+pub mod Silent

@@ -1,0 +1,156 @@
+-- The runs of this crate: the pieces of a duration, one turn of the loop at a time; and that each run ends between characters. Assumes nothing.
+use mathlib.Core.Path.{_≡_, refl, _∙_}
+use mathlib.Core.Bool.{Bool, true, false, not, _&&_, _||_}
+use mathlib.Core.List.{List, _∷_}
+use Prim.Native.Nat.{ℕ, zero, suc, _+_, _≤_, _<_}
+use native.Mathlib.Nat.{add-zero}
+use native.Mathlib.Numerals.{add-one}
+use native.Mathlib.Omega.{arith}
+use borrow.Author.Tests.{ltb-true, ltb-false, eqb-true, ne-eqb, not-false}
+use lib.Dec.{ltb, eqb}
+use lib.ListN.{length, drop}
+use lib.Seq.{drop-cons, getD-drop}
+use Rattle.base.specs.Choice.{pick}
+use Rattle.base.specs.Bytes.{byte}
+use Rattle.base.specs.Classes.{isDigit, isLowerAlpha, isIdentStart, isIdentPart, isSpace}
+use Rattle.base.specs.Runs.{reach, past}
+use Rattle.base.proofs.Tests.{and-left, and-right, true-false, under, over, in-text}
+use Rattle.base.proofs.Walks.{past-step, past-stop, past-end}
+use Rattle.utf8.specs.Grammar.{charSize, Boundary}
+use Rattle.utf8.specs.Check.{isTail}
+use Rattle.utf8.proofs.Boundaries.{boundary-le, next-boundary, ascii-boundary, reach-boundary, stop-boundary}
+use Rattle.scan.specs.Run.{endsTimestamp, inRun, unitPiece}
+use Rattle.scan.specs.declared.run.Run.the-variants as run
+use Rattle.scan.specs.declared.run.Run.{Run}
+
+-- a piece of one byte, and the two bytes of U+00B5, by an index into the text
+abbrev pub oneByte : List ℕ → ℕ → Bool
+oneByte s i = (isDigit (byte s i) || isLowerAlpha (byte s i)) || (eqb (byte s i) 46 && isDigit (byte s (i + 1)))
+
+abbrev pub micro : List ℕ → ℕ → Bool
+micro s i = eqb (byte s i) 0xC2 && eqb (byte s (i + 1)) 0xB5
+
+module _ (s : List ℕ) (i : ℕ) where
+  pub piece-at : unitPiece (drop i s) ≡ pick (oneByte s i) 1 (pick (micro s i) 2 0)
+  unfolding unitPiece
+  piece-at = simp (getD-drop, add-zero)
+
+  -- the second byte of U+00B5 is in the text
+  pub micro-in : micro s i ≡ true → i + 1 < length s
+  micro-in e = in-text (λ b. eqb b 0xB5) s (i + 1) refl (and-right (eqb (byte s i) 0xC2) (eqb (byte s (i + 1)) 0xB5) e)
+
+  module _ (h : i < length s) where
+    pub one-turn : oneByte s i ≡ true → past unitPiece s (i + 1) ≡ past unitPiece s i
+    one-turn e = past-step unitPiece s i 0 (omega arith) (piece-at ∙ rw e)
+
+    module _ (f : oneByte s i ≡ false) where
+      pub micro-turn : micro s i ≡ true → past unitPiece s (i + 2) ≡ past unitPiece s i
+      micro-turn e = past-step unitPiece s i 1 (omega (arith, micro-in e)) (piece-at ∙ rw (f, e))
+
+      pub piece-stop : micro s i ≡ false → past unitPiece s i ≡ i
+      piece-stop e = past-stop unitPiece s i h (piece-at ∙ rw (f, e))
+
+-- ---- tests of ASCII bytes
+
+-- a test that no byte from 0x80 on passes, where it passes
+pub low : (p : ℕ → Bool) → ((a : ℕ) → 0x80 ≤ a → p a ≡ false) → (a : ℕ) → p a ≡ true → ltb a 0x80 ≡ true
+low p high a e = go (ltb a 0x80) refl
+  where
+    go : (b : Bool) → ltb a 0x80 ≡ b → ltb a 0x80 ≡ true
+    go true q = q
+    go false q = true-false (p a) e (high a (ltb-false a 0x80 q))
+
+pub equal-high : (k : ℕ) → k < 0x80 → (a : ℕ) → 0x80 ≤ a → eqb a k ≡ false
+equal-high k l a h = ne-eqb a k (λ e. omega arith)
+
+space-high : (a : ℕ) → 0x80 ≤ a → isSpace a ≡ false
+unfolding isSpace
+space-high a h = simp (equal-high 32 (omega arith) a h, equal-high 9 (omega arith) a h, equal-high 13 (omega arith) a h)
+
+digit-high : (a : ℕ) → 0x80 ≤ a → isDigit a ≡ false
+unfolding isDigit
+digit-high a h = over 48 57 a (omega arith)
+
+part-high : (a : ℕ) → 0x80 ≤ a → isIdentPart a ≡ false
+unfolding isIdentPart isIdentStart
+part-high a h =
+    simp (over 97 122 a (omega arith), over 65 90 a (omega arith), equal-high 95 (omega arith) a h, digit-high a h, equal-high 46 (omega arith) a h)
+
+ends-high : (b a : ℕ) → 0x80 ≤ a → endsTimestamp a b ≡ false
+unfolding endsTimestamp
+ends-high b a h =
+    simp (
+      space-high a h,
+      equal-high 10 (omega arith) a h,
+      equal-high 44 (omega arith) a h,
+      equal-high 93 (omega arith) a h,
+      equal-high 125 (omega arith) a h,
+      equal-high 41 (omega arith) a h,
+      equal-high 35 (omega arith) a h,
+      equal-high 47 (omega arith) a h,
+    )
+
+close-high : (b a : ℕ) → 0x80 ≤ a → eqb a 42 && eqb b 47 ≡ false
+close-high b a h = simp (equal-high 42 (omega arith) a h)
+
+piece-high : (b a : ℕ) → 0x80 ≤ a → (isDigit a || isLowerAlpha a) || (eqb a 46 && isDigit b) ≡ false
+unfolding isLowerAlpha
+piece-high b a h = simp (digit-high a h, over 97 122 a (omega arith), equal-high 46 (omega arith) a h)
+
+-- ---- ends between characters
+
+-- an ASCII byte is no tail
+pub no-tail : (a : ℕ) → ltb a 0x80 ≡ true → isTail a ≡ false
+unfolding isTail
+no-tail a e = under 0x80 0xBF a (ltb-true a 0x80 e)
+
+-- a byte that ends a run which takes all but some ASCII bytes
+clean : (p : ℕ → ℕ → Bool) → ((b a : ℕ) → 0x80 ≤ a → p a b ≡ false) → (a b : ℕ) → not (p a b) ≡ false → isTail a ≡ false
+clean p high a b e = no-tail a (low (λ x. p x b) (high b) a (not-false (p a b) e))
+
+-- the body of a comment, from anywhere behind a boundary
+pub body-boundary : (s : List ℕ) (i j : ℕ) → i ≤ j → j ≤ length s → Boundary s i → Boundary s (reach (inRun run.Body) s j)
+unfolding inRun
+body-boundary s i j g h b = stop-boundary (inRun run.Body) (clean (λ a c. eqb a 42 && eqb c 47) close-high) s i j g h b
+
+-- every run from a boundary ends at one
+pub run-boundary : (k : Run) (s : List ℕ) (i : ℕ) → Boundary s i → Boundary s (reach (inRun k) s i)
+unfolding inRun
+run-boundary run.Blank s i b = reach-boundary (inRun run.Blank) (λ a c e. low isSpace space-high a e) s i b
+run-boundary run.Line s i b =
+    stop-boundary (inRun run.Line) (clean (λ a c. eqb a 10) (λ c a. equal-high 10 (omega arith) a)) s i i (omega arith) (boundary-le s i b) b
+run-boundary run.Body s i b = body-boundary s i i (omega arith) (boundary-le s i b) b
+run-boundary run.Name s i b = reach-boundary (inRun run.Name) (λ a c e. low isIdentPart part-high a e) s i b
+run-boundary run.Digits s i b = reach-boundary (inRun run.Digits) (λ a c e. low isDigit digit-high a e) s i b
+run-boundary run.Stamp s i b = stop-boundary (inRun run.Stamp) (clean endsTimestamp ends-high) s i i (omega arith) (boundary-le s i b) b
+
+-- U+00B5 is a character
+micro-cut : (s : List ℕ) (i : ℕ) → i + 1 < length s → byte s i ≡ 0xC2 → byte s (suc i) ≡ 0xB5 → drop i s ≡ 0xC2 ∷ 0xB5 ∷ drop (suc (suc i)) s
+micro-cut s i h a b = rw (drop-cons s i 0 (omega arith), drop-cons s (suc i) 0 (omega arith), a, b)
+
+micro-size : (s : List ℕ) (i : ℕ) → micro s i ≡ true → charSize (drop i s) ≡ 2
+unfolding charSize
+micro-size s i e =
+    let a = eqb-true (byte s i) 0xC2 (and-left (eqb (byte s i) 0xC2) (eqb (byte s (i + 1)) 0xB5) e) in
+    let b = eqb-true (byte s (i + 1)) 0xB5 (and-right (eqb (byte s i) 0xC2) (eqb (byte s (i + 1)) 0xB5) e) in
+    rw (micro-cut s i (micro-in s i e) a (rw (add-one i) at b))
+
+-- a duration's pieces from a boundary end at one; n bounds the bytes that are left
+units-from : (s : List ℕ) (n i : ℕ) → length s ≤ i + n → Boundary s i → Boundary s (past unitPiece s i)
+units-from s zero i h b = rw (past-end unitPiece s i (omega arith)) b
+units-from s (suc n) i h b =
+    go (ltb i (length s)) (oneByte s i) (micro s i) refl refl refl (λ c. units-from s n (i + 1) (omega arith) c) (λ c. units-from s n (i + 2) (omega arith) c)
+  where
+    go : (x y z : Bool) → ltb i (length s) ≡ x → oneByte s i ≡ y → micro s i ≡ z → (Boundary s (i + 1) → Boundary s (past unitPiece s (i + 1)))
+        → (Boundary s (i + 2) → Boundary s (past unitPiece s (i + 2))) → Boundary s (past unitPiece s i)
+    go false y z p q r one two = rw (past-end unitPiece s i (ltb-false i (length s) p)) b
+    go true true z p q r one two =
+        let l = ltb-true i (length s) p in
+        let t = ltb-true (byte s i) 0x80 (low (λ a. (isDigit a || isLowerAlpha a) || (eqb a 46 && isDigit (byte s (i + 1)))) (piece-high (byte s (i + 1))) (byte s i) q) in
+        rw (← one-turn s i l q) (one (ascii-boundary s i l t b))
+    go true false true p q r one two =
+        rw (← micro-turn s i (ltb-true i (length s) p) q r) (two (next-boundary s i 1 (micro-size s i r) b))
+    go true false false p q r one two = rw (piece-stop s i (ltb-true i (length s) p) q r) b
+
+pub units-boundary : (s : List ℕ) (i : ℕ) → Boundary s i → Boundary s (past unitPiece s i)
+units-boundary s i b = units-from s (length s) i (omega arith) b

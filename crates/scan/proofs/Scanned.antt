@@ -1,0 +1,84 @@
+-- What every lexer of this crate answers, where a byte is left: a token within the text, no Eof and no String, whose end is between characters
+-- where its start is, and a Duration only for a run that `parse` accepts. Assumes nothing.
+use mathlib.Core.Path.{_≡_, refl, ap, sym, _∙_}
+use mathlib.Core.Bool.{Bool, true, false, _||_}
+use mathlib.Core.List.{List, [], _∷_}
+use Prim.Native.Nat.{ℕ, _+_, _≤_, _<_}
+use native.Mathlib.Omega.{arith}
+use lib.Dec.{eqb}
+use lib.ListN.{length, take}
+use Rattle.base.specs.Bytes.{byte, sameBytes}
+use Rattle.base.specs.Classes.{isDigit}
+use Rattle.base.proofs.Tests.{true-false}
+use Rattle.token.specs.Kind.{kindNumber}
+use Rattle.token.specs.declared.kind.TokenKind.the-variants as K
+use Rattle.token.specs.declared.kind.TokenKind.{TokenKind}
+use Rattle.lexeme.specs.Lexeme.{extent, whole, illegal}
+use Rattle.lexeme.specs.declared.Lexeme.{Lexeme}
+use Rattle.lexeme.proofs.Within.{Within, extent-within, illegal-within}
+use Rattle.utf8.specs.Grammar.{Boundary}
+use Rattle.go_duration.specs.Parse.{unsigned, parseOf}
+use Rattle.go_duration.specs.declared.parse.Parsed.the-variants as parsed
+
+-- a kind that is none of these
+pub record Plain (k : TokenKind) : Type 0 where
+  pub not-eof : k ≡ K.Eof → ⊥
+  pub not-string : k ≡ K.String → ⊥
+  pub not-duration : k ≡ K.Duration → ⊥
+
+pub plain : (k : TokenKind) → (eqb (kindNumber k) 0 || eqb (kindNumber k) 5) || eqb (kindNumber k) 12 ≡ false → Plain k
+unfolding kindNumber
+plain k e = record { not-eof = other K.Eof refl; not-string = other K.String refl; not-duration = other K.Duration refl }
+  where
+    test : TokenKind → Bool
+    test x = (eqb (kindNumber x) 0 || eqb (kindNumber x) 5) || eqb (kindNumber x) 12
+
+    other : (x : TokenKind) → test x ≡ true → k ≡ x → ⊥
+    other x t q = true-false (test x) t (ap test (sym q) ∙ e)
+
+-- a Duration: its nanoseconds are those of its run, which begins with a digit or `-` and after that is not `0` alone
+pub record DurationRun (s : List ℕ) (r : Lexeme) : Type 0 where
+  pub value : parseOf (take (r .len) s) ≡ parsed.Nanos (r .nanos)
+  pub first : isDigit (byte s 0) || eqb (byte s 0) 45 ≡ true
+  pub no-plus : byte (take (r .len) s) 0 ≡ 43 → ⊥
+  pub not-zero : sameBytes (unsigned (take (r .len) s)) (48 ∷ []) ≡ false
+
+pub record Scanned (s : List ℕ) (r : Lexeme) : Type 0 where
+  pub within : Within s r
+  pub not-eof : r .kind ≡ K.Eof → ⊥
+  pub not-string : r .kind ≡ K.String → ⊥
+  pub boundary : Boundary s 0 → Boundary s (r .len)
+  pub duration : r .kind ≡ K.Duration → DurationRun s r
+
+-- an end of a token
+pub record Ends (s : List ℕ) (n : ℕ) : Type 0 where
+  pub some : 0 < n
+  pub inside : n ≤ length s
+  pub between : Boundary s 0 → Boundary s n
+
+-- the makers' answers
+module _ (s : List ℕ) (n : ℕ) (e : Ends s n) where
+  pub extent-scanned : (k : TokenKind) (v size reports : ℕ) → Plain k → v + size ≤ n → reports ≤ n → Scanned s (extent k n v size reports)
+  extent-scanned k v size reports p i j =
+      record {
+        within = extent-within s k n (e .some) (e .inside) v size reports i j;
+        not-eof = p .not-eof;
+        not-string = p .not-string;
+        boundary = e .between;
+        duration = λ q. absurd (p .not-duration q);
+      }
+
+  pub whole-scanned : (k : TokenKind) → Plain k → Scanned s (whole k n)
+  whole-scanned k p = extent-scanned k 0 n 0 p (omega arith) (omega arith)
+
+  pub illegal-scanned : (reason detail : ℕ) → reason ≤ 18 → detail < 0x200000 → Scanned s (illegal reason detail n)
+  unfolding kindNumber
+  illegal-scanned reason detail i j =
+      let p = plain K.Illegal refl in
+      record {
+        within = illegal-within s reason detail n (e .some) (e .inside) i (λ _. j);
+        not-eof = p .not-eof;
+        not-string = p .not-string;
+        boundary = e .between;
+        duration = λ q. absurd (p .not-duration q);
+      }

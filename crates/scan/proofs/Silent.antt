@@ -1,0 +1,81 @@
+-- Names, directives, numbers and unexpected characters make no report. By cases on the tests of each definition. Assumes nothing.
+use mathlib.Core.Path.{_≡_, refl}
+use mathlib.Core.Bool.{_&&_, _||_}
+use mathlib.Core.List.{List}
+use Prim.Native.Nat.{ℕ, _+_, _-_}
+use lib.Dec.{ltb, eqb}
+use lib.ListN.{take, drop}
+use Rattle.base.specs.Bytes.{byte, sameBytes}
+use Rattle.base.specs.Classes.{isDigit}
+use Rattle.base.specs.Runs.{reach, past}
+use Rattle.base.proofs.Tests.{pick-case}
+use Rattle.go_duration.specs.Parse.{parseOf}
+use Rattle.go_duration.specs.declared.parse.Parsed.{Parsed}
+use Rattle.go_duration.specs.declared.parse.Parsed.the-variants as parsed
+use Rattle.token.specs.declared.kind.TokenKind.{TokenKind}
+use Rattle.token.specs.declared.kind.TokenKind.the-variants as K
+use Rattle.lexeme.specs.declared.Lexeme.{Lexeme}
+use Rattle.scan.specs.Run.{inRun, unitPiece}
+use Rattle.scan.specs.Comment.{lexLineComment}
+use Rattle.scan.specs.Name.{typeWord, datasetWord, protoWord, lexIdent, directive, lexDirective}
+use Rattle.scan.specs.Number.{withPrecision, lexFloat, pastPoint, pastExponent, pastFraction, atDurationUnit, durationBy, lexDuration, goesOnFloat, lexTail, lexUnsigned, atInf, lexMinus, lexSigned}
+use Rattle.scan.specs.Other.{lexOther}
+use Rattle.scan.specs.declared.run.Run.the-variants as run
+
+abbrev Silent : Lexeme → Type 0
+Silent r = r .reports ≡ 0
+
+module _ (s : List ℕ) where
+  pub line-silent : lexLineComment s .reports ≡ 0
+  unfolding lexLineComment
+  line-silent = refl
+
+  pub ident-silent : lexIdent s .reports ≡ 0
+  unfolding lexIdent
+  ident-silent = refl
+
+  pub other-silent : lexOther s .reports ≡ 0
+  unfolding lexOther
+  other-silent = refl
+
+  named-silent : (w : List ℕ) (n : ℕ) → directive w n .reports ≡ 0
+  unfolding directive
+  named-silent w n =
+      pick-case Silent (sameBytes w typeWord) (λ _. refl)
+      (λ _. pick-case Silent (sameBytes w datasetWord) (λ _. refl) (λ _. pick-case Silent (sameBytes w protoWord) (λ _. refl) (λ _. refl)))
+
+  pub directive-silent : lexDirective s .reports ≡ 0
+  unfolding lexDirective
+  directive-silent =
+      let n = reach (inRun run.Name) s 1 in
+      pick-case Silent (eqb n 1) (λ _. refl) (λ _. named-silent (take (n - 1) (drop 1 s)) n)
+
+  precision-silent : (k : TokenKind) (e : ℕ) → withPrecision k s e .reports ≡ 0
+  unfolding withPrecision
+  precision-silent k e = pick-case Silent (eqb (byte s e) 112 && isDigit (byte s (e + 1))) (λ _. refl) (λ _. refl)
+
+  duration-silent : (p : Parsed) (n : ℕ) → durationBy p n .reports ≡ 0
+  duration-silent (parsed.Nanos z) n = refl
+  duration-silent parsed.Bad n = refl
+
+  tail-silent : (n f : ℕ) → lexTail s n f .reports ≡ 0
+  unfolding lexTail lexDuration lexFloat
+  tail-silent n f =
+      pick-case Silent (atDurationUnit (byte s f) (byte s (f + 1)))
+      (λ _. duration-silent (parseOf (take (past unitPiece s f) s)) (past unitPiece s f))
+      (λ _. pick-case Silent (ltb n f || goesOnFloat (byte s f)) (λ _. precision-silent K.Float (pastExponent s (pastPoint s f)))
+      (λ _. precision-silent K.Int f))
+
+  pub unsigned-silent : lexUnsigned s .reports ≡ 0
+  unfolding lexUnsigned
+  unsigned-silent =
+      let n = reach (inRun run.Digits) s 0 in
+      pick-case Silent (eqb n 4 && eqb (byte s n) 45) (λ _. refl) (λ _. tail-silent n (pastFraction s n))
+
+  pub signed-silent : lexSigned s .reports ≡ 0
+  unfolding lexSigned lexMinus
+  signed-silent =
+      let n = reach (inRun run.Digits) s 1 in
+      pick-case Silent (atInf s) (λ _. refl)
+      (λ _. pick-case Silent (eqb (byte s 0) 43) (λ _. refl)
+      (λ _. pick-case Silent (isDigit (byte s 1)) (λ _. tail-silent n (pastFraction s n)) (λ _. refl)))

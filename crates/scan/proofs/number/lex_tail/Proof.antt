@@ -1,0 +1,79 @@
+-- `lex_tail` meets its contract: each return is a case of the definition. Assumes nothing.
+use borrow.Author.Needs.{needs}
+use Rattle.scan.specs.Number.{lexTail}
+use Rattle.scan.proofs.number.lex_tail.Statement.{statement}
+use Rattle.scan.proofs.number.lex_tail.Tie as tie
+
+peek-requires : tie.Need-peek-requires
+peek-requires c κs = search needs
+
+add-peek : tie.Need-add-peek
+add-peek c = search needs
+
+peek-requires-2 : tie.Need-peek-requires-2
+peek-requires-2 c κs = search needs
+
+at-duration-unit-requires : tie.Need-at-duration-unit-requires
+at-duration-unit-requires c κs = search needs
+
+lex-duration-requires : tie.Need-lex-duration-requires
+lex-duration-requires c κs = search needs
+
+returns : tie.Need-returns
+unfolding lexTail
+returns c =
+    let b = c .before .before in
+    rw (← b .before .before .peek .ensures, ← b .before .peek2 .ensures, ← b .at-duration-unit .ensures, c .before .if1 .taken) (c .lex-duration .ensures)
+
+goes-on-float-requires : tie.Need-goes-on-float-requires
+goes-on-float-requires c κs = search needs
+
+lex-float-requires : tie.Need-lex-float-requires
+lex-float-requires c κs = search needs
+
+returns-2 : tie.Need-returns-2
+unfolding lexTail
+returns-2 c =
+    let b = c .before .before .before .before in
+    rw (
+      ← b .before .before .peek .ensures,
+      ← b .before .peek2 .ensures,
+      ← b .at-duration-unit .ensures,
+      c .before .before .before .if1 .left,
+      ← c .before .before .goes-on-float .ensures,
+      c .before .if2 .taken,
+    )
+    (c .lex-float .ensures)
+
+with-precision-requires : tie.Need-with-precision-requires
+with-precision-requires c κs = search needs
+
+returns-3 : tie.Need-returns-3
+unfolding lexTail
+returns-3 c =
+    let b = c .before .before .before .before in
+    rw (
+      ← b .before .before .peek .ensures,
+      ← b .before .peek2 .ensures,
+      ← b .at-duration-unit .ensures,
+      c .before .before .before .if1 .left,
+      ← c .before .before .goes-on-float .ensures,
+      c .before .if2 .left,
+    )
+    (c .with-precision .ensures)
+
+pub lex-tail-spec : {M : Type 1} → statement M
+lex-tail-spec =
+    tie.close
+    (tie.spec
+    peek-requires
+    add-peek
+    peek-requires-2
+    at-duration-unit-requires
+    lex-duration-requires
+    returns
+    goes-on-float-requires
+    lex-float-requires
+    returns-2
+    with-precision-requires
+    returns-3)

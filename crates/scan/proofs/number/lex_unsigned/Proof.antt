@@ -1,0 +1,52 @@
+-- `lex_unsigned` meets its contract: four digits before `-` are a timestamp's, others a number's. Assumes nothing.
+use Prim.Native.Nat.{zero-le}
+use borrow.Author.Needs.{needs}
+use Rattle.base.proofs.Reaches.{reach-le}
+use Rattle.scan.specs.Number.{lexUnsigned}
+use Rattle.scan.specs.Run.{inRun}
+use Rattle.scan.proofs.Goes.{goes-fraction}
+use Rattle.scan.proofs.number.lex_unsigned.Statement.{statement}
+use Rattle.scan.proofs.number.lex_unsigned.Tie as tie
+
+reach-run-requires : tie.Need-reach-run-requires
+reach-run-requires c κs = search needs
+
+peek-requires : tie.Need-peek-requires
+peek-requires c κs = search needs
+
+reach-run-requires-2 : tie.Need-reach-run-requires-2
+reach-run-requires-2 c κs = search needs
+
+whole-requires : tie.Need-whole-requires
+whole-requires c κs = search needs
+
+returns : tie.Need-returns
+unfolding lexUnsigned
+returns c =
+    let b = c .before .before .before in
+    rw (← b .before .reach-run .ensures, ← b .peek .ensures, c .before .before .if1 .taken, ← c .before .reach-run2 .ensures) (c .whole .ensures)
+
+past-fraction-requires : tie.Need-past-fraction-requires
+past-fraction-requires c κs = rw (c .before .before .reach-run .ensures) (reach-le (inRun _) _ 0 zero-le)
+
+lex-tail-requires : tie.Need-lex-tail-requires
+lex-tail-requires c κs = rw (c .past-fraction .ensures, c .before .before .before .reach-run .ensures) (goes-fraction _ _ .le (reach-le (inRun _) _ 0 zero-le))
+
+returns-2 : tie.Need-returns-2
+unfolding lexUnsigned
+returns-2 c =
+    let b = c .before .before .before in
+    rw (← b .before .reach-run .ensures, ← b .peek .ensures, c .before .before .if1 .left, ← c .before .past-fraction .ensures) (c .lex-tail .ensures)
+
+pub lex-unsigned-spec : {M : Type 1} → statement M
+lex-unsigned-spec =
+    tie.close
+    (tie.spec
+    reach-run-requires
+    peek-requires
+    reach-run-requires-2
+    whole-requires
+    returns
+    past-fraction-requires
+    lex-tail-requires
+    returns-2)

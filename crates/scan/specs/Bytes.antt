@@ -1,0 +1,58 @@
+-- Bytes literals: `lex_bytes`.
+use mathlib.Core.List.{List, [], _∷_}
+use Prim.Native.Nat.{ℕ, _+_, _*_, _/_}
+use lib.Dec.{ltb, eqb}
+use lib.ListN.{drop}
+use Rattle.base.specs.Choice.{pick}
+use Rattle.utf8.specs.Check.{charEnd}
+use Rattle.token.specs.declared.kind.TokenKind.the-variants as K
+use Rattle.lexeme.specs.Lexeme.{extent, illegal, Note, noteAtStart}
+use Rattle.lexeme.specs.declared.Lexeme.{Lexeme}
+use Rattle.lexeme.specs.declared.Mode.{Mode}
+use Rattle.lexeme.specs.declared.Mode.the-variants.{Strict, Tolerant}
+use Rattle.scan.specs.declared.bytes.Stop.{Stop}
+use Rattle.scan.specs.declared.bytes.Stop.the-variants as stop
+
+-- document 01: "before each byte, the closing quote included, floor(n ÷ 4) × 3 above the limit, n being the bytes since the opening quote, is
+-- reason 13"; so n bytes on, the literal stops over the limit, at its closing quote, at a newline, or open at the end of the text
+unfoldable pub bytesStop : ℕ → ℕ → List ℕ → Stop
+bytesStop limit n [] = stop.Open n
+bytesStop limit n (b ∷ s) =
+    pick (ltb limit (n / 4 * 3)) (stop.Over n) (pick (eqb b 34) (stop.Closed n) (pick (eqb b 10) (stop.Newline n) (bytesStop limit (n + 1) s)))
+
+-- "a Bytes value is the run between its quotes"; an empty one has its place at the token's end
+abbrev pub bytesValue : ℕ → ℕ → ℕ → Lexeme
+bytesValue len n reports = extent K.Bytes len (pick (eqb n 0) len 2) n reports
+
+-- an open literal, n bytes between its quote and its end
+abbrev pub openBytes : Mode → ℕ → Lexeme
+openBytes Strict n = illegal 14 0 (n + 2)
+openBytes Tolerant n = bytesValue (n + 2) n 1
+
+abbrev pub bytesBy : Mode → List ℕ → Stop → Lexeme
+bytesBy m s (stop.Over n) = illegal 13 0 (charEnd s (n + 2))
+bytesBy m s (stop.Closed n) = bytesValue (n + 3) n 0
+bytesBy m s (stop.Newline n) = openBytes m n
+bytesBy m s (stop.Open n) = openBytes m n
+
+-- the bytes literal at the front of s, which begins with `b"`
+unfoldable pub lexBytes : Mode → ℕ → List ℕ → Lexeme
+lexBytes m limit s = bytesBy m s (bytesStop limit 0 (drop 2 s))
+
+-- what the tolerant reader reports of it, at its start: 20 where it ended at a newline, 14 where it is open
+abbrev pub notesBy : Mode → Stop → List Note
+notesBy Strict e = []
+notesBy Tolerant (stop.Over n) = []
+notesBy Tolerant (stop.Closed n) = []
+notesBy Tolerant (stop.Newline n) = noteAtStart 20 ∷ []
+notesBy Tolerant (stop.Open n) = noteAtStart 14 ∷ []
+
+unfoldable pub bytesNotes : Mode → ℕ → List ℕ → List Note
+bytesNotes m limit s = notesBy m (bytesStop limit 0 (drop 2 s))
+
+-- the reason of that report, or 0 where there is none
+unfoldable pub stopReason : Stop → ℕ
+stopReason (stop.Over n) = 0
+stopReason (stop.Closed n) = 0
+stopReason (stop.Newline n) = 20
+stopReason (stop.Open n) = 14

@@ -1,0 +1,6 @@
+pub mod Run
+pub mod Comment
+pub mod Name
+pub mod Bytes
+pub mod Other
+pub mod Number

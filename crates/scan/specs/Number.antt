@@ -1,0 +1,94 @@
+-- Numbers, timestamps and durations: `lex_number` and what it calls.
+use mathlib.Core.Bool.{Bool, not, _&&_, _||_}
+use mathlib.Core.List.{List, [], _∷_}
+use Prim.Native.Nat.{ℕ, _+_, _-_}
+use lib.Dec.{ltb, eqb}
+use lib.IntN.{pos}
+use lib.ListN.{take}
+use Rattle.base.specs.Choice.{pick}
+use Rattle.base.specs.Bytes.{byte}
+use Rattle.base.specs.Classes.{isDigit, isIdentPart, isDurationUnit}
+use Rattle.base.specs.Runs.{reach, past}
+use Rattle.go_duration.specs.Parse.{parseOf}
+use Rattle.go_duration.specs.declared.parse.Parsed.{Parsed}
+use Rattle.go_duration.specs.declared.parse.Parsed.the-variants as parsed
+use Rattle.token.specs.declared.kind.TokenKind.{TokenKind}
+use Rattle.token.specs.declared.kind.TokenKind.the-variants as K
+use Rattle.lexeme.specs.Lexeme.{whole, illegal}
+use Rattle.lexeme.specs.declared.Lexeme.{Lexeme}
+use Rattle.scan.specs.Run.{inRun, unitPiece}
+use Rattle.scan.specs.declared.run.Run.the-variants as run
+
+-- a number that ends at e, with its precision: the digits after `p`
+abbrev pub precise : TokenKind → ℕ → ℕ → Lexeme
+precise k e n =
+    record { kind = k; reason = 0; detail = 0; len = n; value = 0; size = e; precision = e + 1; digits = n - (e + 1); nanos = pos 0; reports = 0 }
+
+-- `lex_precision`: `p` and one or more digits, or nothing
+unfoldable pub withPrecision : TokenKind → List ℕ → ℕ → Lexeme
+withPrecision k s e =
+    pick (eqb (byte s e) 112 && isDigit (byte s (e + 1))) (precise k e (reach (inRun run.Digits) s (e + 1))) (whole k e)
+
+-- past a point and digits or none
+unfoldable pub pastPoint : List ℕ → ℕ → ℕ
+pastPoint s i = pick (eqb (byte s i) 46) (reach (inRun run.Digits) s (i + 1)) i
+
+-- past a sign or nothing
+unfoldable pub pastSign : List ℕ → ℕ → ℕ
+pastSign s i = pick (eqb (byte s i) 43 || eqb (byte s i) 45) (i + 1) i
+
+-- past `e` or `E`, a sign or none, and digits or none
+unfoldable pub pastExponent : List ℕ → ℕ → ℕ
+pastExponent s i = pick (eqb (byte s i) 101 || eqb (byte s i) 69) (reach (inRun run.Digits) s (pastSign s (i + 1))) i
+
+-- `lex_float`, from f on
+unfoldable pub lexFloat : List ℕ → ℕ → Lexeme
+lexFloat s f = withPrecision K.Float s (pastExponent s (pastPoint s f))
+
+-- past a point and at least one digit, or nothing
+unfoldable pub pastFraction : List ℕ → ℕ → ℕ
+pastFraction s i = pick (eqb (byte s i) 46 && isDigit (byte s (i + 1))) (reach (inRun run.Digits) s (i + 1)) i
+
+-- `at_duration_unit`: the first byte of a unit, or U+00B5
+unfoldable pub atDurationUnit : ℕ → ℕ → Bool
+atDurationUnit a b = isDurationUnit a || (eqb a 0xC2 && eqb b 0xB5)
+
+-- a duration of n bytes, as `go_duration::parse` judges it; a bad one is reason 18
+abbrev pub durationBy : Parsed → ℕ → Lexeme
+durationBy (parsed.Nanos z) n =
+    record { kind = K.Duration; reason = 0; detail = 0; len = n; value = 0; size = n; precision = 0; digits = 0; nanos = z; reports = 0 }
+durationBy parsed.Bad n = illegal 18 0 n
+
+-- `lex_duration`, the units from f on
+unfoldable pub lexDuration : List ℕ → ℕ → Lexeme
+lexDuration s f = durationBy (parseOf (take (past unitPiece s f) s)) (past unitPiece s f)
+
+-- what goes on after the digits as a float
+abbrev pub goesOnFloat : ℕ → Bool
+goesOnFloat a = (eqb a 46 || eqb a 101) || eqb a 69
+
+-- a number whose digits end at n and whose fraction ends at f
+unfoldable pub lexTail : List ℕ → ℕ → ℕ → Lexeme
+lexTail s n f =
+    pick (atDurationUnit (byte s f) (byte s (f + 1))) (lexDuration s f)
+    (pick (ltb n f || goesOnFloat (byte s f)) (lexFloat s f) (withPrecision K.Int s f))
+
+-- document 01: "An unsigned run of exactly four digits before `-` starts a timestamp run"
+unfoldable pub lexUnsigned : List ℕ → Lexeme
+lexUnsigned s =
+    let n = reach (inRun run.Digits) s 0 in
+    pick (eqb n 4 && eqb (byte s n) 45) (whole K.Timestamp (reach (inRun run.Stamp) s n)) (lexTail s n (pastFraction s n))
+
+-- `inf` after a sign, where no name byte follows
+unfoldable pub atInf : List ℕ → Bool
+atInf s = ((eqb (byte s 1) 105 && eqb (byte s 2) 110) && eqb (byte s 3) 102) && not (isIdentPart (byte s 4))
+
+-- `-` without digit or `inf` is reason 17
+unfoldable pub lexMinus : List ℕ → Lexeme
+lexMinus s =
+    let n = reach (inRun run.Digits) s 1 in
+    pick (isDigit (byte s 1)) (lexTail s n (pastFraction s n)) (illegal 17 0 1)
+
+-- `+` without `inf` is reason 16
+unfoldable pub lexSigned : List ℕ → Lexeme
+lexSigned s = pick (atInf s) (whole K.Float 4) (pick (eqb (byte s 0) 43) (illegal 16 0 1) (lexMinus s))

@@ -1,0 +1,191 @@
+// Numbers, timestamps and durations.
+ghost use mathlib.Core.Path.{_≡_};
+ghost use Prim.Native.Nat.{_+_, _≤_};
+ghost use lib.ListN.{length};
+ghost use Rattle.scan.specs.Number.{withPrecision, pastPoint, pastSign, pastExponent, lexFloat, pastFraction, atDurationUnit, lexDuration, goesOnFloat, lexTail, lexUnsigned, atInf, lexMinus, lexSigned};
+use crate::run::Run;
+use crate::run::past_units;
+use crate::run::reach_run;
+use base::class::is_digit;
+use base::class::is_duration_unit;
+use base::class::is_ident_part;
+use base::peek;
+use go_duration::parse::Parsed;
+use go_duration::parse::parse;
+use lexeme::Lexeme;
+use token::kind::TokenKind;
+
+// `lex_precision`: a number that ends at `end`, with the precision that follows it.
+fn with_precision(kind: TokenKind, s: &[u8], end: usize) -> Lexeme
+    requires { ⌜ end ≤ length (now s) ⌝ }
+    ensures { λ r. ⌜ r ≡ withPrecision kind (now (s .entry)) end ⌝ }
+{
+    if (peek(s, end) == b'p') & is_digit(peek(s, end + 1)) {
+        let precision = end + 1;
+        let len = reach_run(Run::Digits, s, precision);
+        let digits = len - precision;
+        return Lexeme {
+            kind,
+            reason: 0,
+            detail: 0,
+            len,
+            value: 0,
+            size: end,
+            precision,
+            digits,
+            nanos: 0,
+            reports: 0,
+        };
+    }
+    lexeme::whole(kind, end)
+}
+
+// Past a point and digits or none.
+fn past_point(s: &[u8], i: usize) -> usize
+    requires { ⌜ i ≤ length (now s) ⌝ }
+    ensures { λ r. ⌜ r ≡ pastPoint (now (s .entry)) i ⌝ }
+{
+    if peek(s, i) == b'.' {
+        return reach_run(Run::Digits, s, i + 1);
+    }
+    i
+}
+
+// Past a sign or nothing.
+fn past_sign(s: &[u8], i: usize) -> usize
+    requires { ⌜ i ≤ length (now s) + 1 ⌝ }
+    ensures { λ r. ⌜ r ≡ pastSign (now (s .entry)) i ⌝ }
+{
+    let b = peek(s, i);
+    if (b == b'+') | (b == b'-') {
+        return i + 1;
+    }
+    i
+}
+
+// Past an exponent or nothing.
+fn past_exponent(s: &[u8], i: usize) -> usize
+    requires { ⌜ i ≤ length (now s) ⌝ }
+    ensures { λ r. ⌜ r ≡ pastExponent (now (s .entry)) i ⌝ }
+{
+    let b = peek(s, i);
+    if (b == b'e') | (b == b'E') {
+        return reach_run(Run::Digits, s, past_sign(s, i + 1));
+    }
+    i
+}
+
+// A float whose digits and fraction end at `f`.
+fn lex_float(s: &[u8], f: usize) -> Lexeme
+    requires { ⌜ f ≤ length (now s) ⌝ }
+    ensures { λ r. ⌜ r ≡ lexFloat (now (s .entry)) f ⌝ }
+{
+    with_precision(TokenKind::Float, s, past_exponent(s, past_point(s, f)))
+}
+
+// Past a point and at least one digit, or nothing.
+fn past_fraction(s: &[u8], i: usize) -> usize
+    requires { ⌜ i ≤ length (now s) ⌝ }
+    ensures { λ r. ⌜ r ≡ pastFraction (now (s .entry)) i ⌝ }
+{
+    if (peek(s, i) == b'.') & is_digit(peek(s, i + 1)) {
+        return reach_run(Run::Digits, s, i + 1);
+    }
+    i
+}
+
+// Whether the byte `a`, with `b` after it, begins a unit.
+fn at_duration_unit(a: u8, b: u8) -> bool
+    ensures { λ r. ⌜ r ≡ atDurationUnit a b ⌝ }
+{
+    is_duration_unit(a) | ((a == 0xC2) & (b == 0xB5))
+}
+
+// A duration whose first unit begins at `f`.
+fn lex_duration(s: &[u8], f: usize) -> Lexeme
+    requires { ⌜ f ≤ length (now s) ⌝ }
+    ensures { λ r. ⌜ r ≡ lexDuration (now (s .entry)) f ⌝ }
+{
+    let len = past_units(s, f);
+    match parse(&s[..len]) {
+        Parsed::Nanos(nanos) => Lexeme {
+            kind: TokenKind::Duration,
+            reason: 0,
+            detail: 0,
+            len,
+            value: 0,
+            size: len,
+            precision: 0,
+            digits: 0,
+            nanos,
+            reports: 0,
+        },
+        Parsed::Bad => lexeme::illegal(18, 0, len),
+    }
+}
+
+// Whether a number goes on with the byte `a` as a float.
+fn goes_on_float(a: u8) -> bool
+    ensures { λ r. ⌜ r ≡ goesOnFloat a ⌝ }
+{
+    (a == b'.') | (a == b'e') | (a == b'E')
+}
+
+// A number whose digits end at `n` and whose fraction ends at `f`.
+fn lex_tail(s: &[u8], n: usize, f: usize) -> Lexeme
+    requires { ⌜ f ≤ length (now s) ⌝ }
+    ensures { λ r. ⌜ r ≡ lexTail (now (s .entry)) n f ⌝ }
+{
+    let b = peek(s, f);
+    if at_duration_unit(b, peek(s, f + 1)) {
+        return lex_duration(s, f);
+    }
+    if (n < f) | goes_on_float(b) {
+        return lex_float(s, f);
+    }
+    with_precision(TokenKind::Int, s, f)
+}
+
+// `lex_number` at a digit; four digits before `-` start a timestamp.
+pub fn lex_unsigned(s: &[u8]) -> Lexeme
+    ensures { λ r. ⌜ r ≡ lexUnsigned (now (s .entry)) ⌝ }
+{
+    let n = reach_run(Run::Digits, s, 0);
+    if (n == 4) & (peek(s, n) == b'-') {
+        return lexeme::whole(TokenKind::Timestamp, reach_run(Run::Stamp, s, n));
+    }
+    lex_tail(s, n, past_fraction(s, n))
+}
+
+// Whether `inf` stands after the sign, and no name goes on from there.
+fn at_inf(s: &[u8]) -> bool
+    ensures { λ r. ⌜ r ≡ atInf (now (s .entry)) ⌝ }
+{
+    (peek(s, 1) == b'i') & (peek(s, 2) == b'n') & (peek(s, 3) == b'f') & !is_ident_part(peek(s, 4))
+}
+
+// A number after `-`.
+fn lex_minus(s: &[u8]) -> Lexeme
+    requires { ⌜ 1 ≤ length (now s) ⌝ }
+    ensures { λ r. ⌜ r ≡ lexMinus (now (s .entry)) ⌝ }
+{
+    if is_digit(peek(s, 1)) {
+        let n = reach_run(Run::Digits, s, 1);
+        return lex_tail(s, n, past_fraction(s, n));
+    }
+    lexeme::illegal(17, 0, 1)
+}
+
+// `lex_number` at a sign.
+pub fn lex_signed(s: &[u8]) -> Lexeme
+    requires { ⌜ 1 ≤ length (now s) ⌝ }
+    ensures { λ r. ⌜ r ≡ lexSigned (now (s .entry)) ⌝ }
+{
+    if at_inf(s) {
+        return lexeme::whole(TokenKind::Float, 4);
+    }
+    if peek(s, 0) == b'+' {
+        return lexeme::illegal(16, 0, 1);
+    }
+    lex_minus(s)
+}

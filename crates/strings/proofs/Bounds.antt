@@ -1,0 +1,86 @@
+-- A literal gives no more bytes and no more reports than it takes bytes of text, it ends within the text, and a tolerant one never at a bad
+-- escape. By steps. Assumes nothing.
+use mathlib.Core.Path.{_≡_, refl}
+use mathlib.Core.List.{List, [], _∷_}
+use Prim.Native.Nat.{ℕ, _+_, _-_, _≤_, _<_}
+use native.Mathlib.Omega.{arith}
+use lib.Dec.{lit≤}
+use lib.ListN.{length, take, drop, length-append, length-drop}
+use Rattle.lexeme.specs.declared.Mode.{Mode}
+use Rattle.lexeme.specs.declared.Mode.the-variants.{Strict, Tolerant}
+use Rattle.strings.specs.Decode.{Decoded, letterDetail, stepNotes, prepend, finish}
+use Rattle.strings.specs.Literal.{literalOf, endReason, endDetail, endOf}
+use Rattle.strings.specs.declared.literal.End.{End}
+use Rattle.strings.specs.declared.literal.End.the-variants as end
+use Rattle.strings.proofs.Fine.{Taken}
+use Rattle.strings.proofs.Decodes.{from, Went, Named, Ended, by-steps}
+use Rattle.strings.proofs.Turns.{length-four, notes-le}
+
+-- what the text from i on stands for
+pub record Bounds (s : List ℕ) (i : ℕ) (d : Decoded) : Type 0 where
+  pub bytes-in : i + length (d .bytes) ≤ d .stop
+  pub notes-in : i + length (d .notes) ≤ d .stop
+  pub upto : d .stop ≤ length s
+  pub reason : endReason (d .ending) ≤ 10
+
+reason-le : (m : Mode) (l : List ℕ) (e : End) → Named m l e → endReason e ≤ 10
+unfolding endReason
+reason-le m l end.Closed n = lit≤ tt
+reason-le m l end.AtNewline n = lit≤ tt
+reason-le m l end.Cut n = lit≤ tt
+reason-le m l end.Open n = lit≤ tt
+reason-le Strict l (end.Bad reason letter) n = omega (arith, n .high)
+reason-le Tolerant l (end.Bad reason letter) n = absurd n
+
+pub bounds : (m : Mode) (s : List ℕ) (i : ℕ) → i ≤ length s → Bounds s i (from m s i)
+bounds m s = by-steps m s (Bounds s) stops goes
+  where
+    stops : (i : ℕ) (e : End) (p : ℕ) → i ≤ length s → i ≤ p → Ended m (drop i s) e (p - i) → Bounds s i (finish e p)
+    stops i e p h g u =
+        record { bytes-in = omega arith; notes-in = omega arith; upto = omega (arith, u .upto, length-drop i s); reason = reason-le m (drop i s) e (u .named) }
+
+    goes : (i n a b c d used reason : ℕ) (r : Decoded) → i ≤ length s → Went (drop i s) n b used reason → Bounds s (i + used) r
+        → Bounds s i (prepend (take n (a ∷ b ∷ c ∷ d ∷ [])) (stepNotes reason b i) r)
+    goes i n a b c d used reason r h w v =
+        let t : Taken n used (length (drop i s)) = w .taken in
+        let bs : List ℕ = take n (a ∷ b ∷ c ∷ d ∷ []) in
+        let ns = stepNotes reason b i in
+        record {
+          bytes-in = omega (arith, length-append bs (r .bytes), length-four n a b c d (t .four), v .bytes-in);
+          notes-in = omega (arith, length-append ns (r .notes), notes-le reason b i, v .notes-in);
+          upto = v .upto;
+          reason = v .reason;
+        }
+
+-- the whole literal
+pub literal-bounds : (m : Mode) (s : List ℕ) → 0 < length s → Bounds s 1 (literalOf m s)
+unfolding literalOf
+literal-bounds m s h = bounds m s 1 h
+
+-- an ending that is no bad escape
+pub record Sound (s : List ℕ) (e : End) : Type 0 where
+  pub detail : endDetail e ≡ 0
+  pub stays : (x : ℕ) → endOf s e x ≡ x
+
+named-sound : (s l : List ℕ) (e : End) → Named Tolerant l e → Sound s e
+unfolding endDetail endOf
+named-sound s l end.Closed n = record { detail = refl; stays = λ x. refl }
+named-sound s l end.AtNewline n = record { detail = refl; stays = λ x. refl }
+named-sound s l end.Cut n = record { detail = refl; stays = λ x. refl }
+named-sound s l end.Open n = record { detail = refl; stays = λ x. refl }
+named-sound s l (end.Bad reason letter) n = absurd n
+
+-- a strict ending without a reason is none either
+pub zero-sound : (s : List ℕ) (e : End) → endReason e ≡ 0 → Sound s e
+unfolding endReason endDetail endOf letterDetail
+zero-sound s end.Closed z = record { detail = refl; stays = λ x. refl }
+zero-sound s end.AtNewline z = record { detail = refl; stays = λ x. refl }
+zero-sound s end.Cut z = record { detail = refl; stays = λ x. refl }
+zero-sound s end.Open z = record { detail = refl; stays = λ x. refl }
+zero-sound s (end.Bad reason letter) z = rw z (record { detail = refl; stays = λ x. refl })
+
+pub tolerant-sound : (s : List ℕ) → 0 < length s → Sound s (literalOf Tolerant s .ending)
+unfolding literalOf
+tolerant-sound s h =
+    by-steps Tolerant s (λ (i : ℕ) (d : Decoded). Sound s (d .ending)) (λ i e p k g u. named-sound s (drop i s) e (u .named))
+    (λ i n a b c d used reason r k w v. v) 1 h

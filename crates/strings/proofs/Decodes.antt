@@ -1,0 +1,191 @@
+-- Laws of `decode`, at an offset of the token: what one step makes of it, a claim from the claims of its steps, and a run of bytes that stand
+-- for themselves. By induction on the bytes that are left. Assumes nothing.
+use mathlib.Core.Path.{_≡_, refl, sym, ap, _∙_, subst}
+use mathlib.Core.Bool.{Bool, true, false, not, _&&_}
+use mathlib.Core.List.{List, [], _∷_}
+use Prim.Native.Nat.{ℕ, zero, suc, _+_, _-_, _≤_, _<_}
+use native.Mathlib.Nat.{add-zero, add-suc, suc-add}
+use native.Mathlib.Omega.{arith}
+use borrow.Author.Tests.{not-true}
+use lib.Dec.{eqb, lit≤}
+use lib.ListN.{length, drop, take, length-drop}
+use lib.Seq.{drop-drop}
+use Rattle.base.specs.Choice.{pick}
+use Rattle.base.specs.Bytes.{byte}
+use Rattle.base.specs.Runs.{run, reach}
+use Rattle.base.proofs.Tests.{and-left, and-right}
+use Rattle.lexeme.specs.declared.Mode.{Mode}
+use Rattle.lexeme.specs.declared.Mode.the-variants.{Strict, Tolerant}
+use Rattle.strings.specs.Piece.{pieceOf}
+use Rattle.strings.specs.Plain.{isOrdinary}
+use Rattle.strings.specs.Decode.{Decoded, stepOf, stepNotes, prepend, finish, follow, decode}
+use Rattle.strings.specs.Literal.{endReason}
+use Rattle.strings.specs.declared.piece.Piece.{Piece}
+use Rattle.strings.specs.declared.piece.Piece.the-variants as piece
+use Rattle.strings.specs.declared.literal.End.{End}
+use Rattle.strings.specs.declared.literal.End.the-variants as end
+use Rattle.strings.specs.declared.literal.Step.{Step}
+use Rattle.strings.specs.declared.literal.Step.the-variants.{Go, Stop}
+use Rattle.strings.proofs.Fine.{Fine, Taken, Front, fine}
+
+-- a step that goes on, at the front of l
+pub record Went (l : List ℕ) (n b used reason : ℕ) : Type 0 where
+  pub taken : Taken n used (length l)
+  pub small : reason ≤ 9
+  pub named : (reason ≡ 0 → ⊥) → b ≡ byte l 1
+
+-- the first k bytes of l end where a character can: at the end of l, after an ASCII byte or before one
+pub data Clean (l : List ℕ) (k : ℕ) : Type 0 where
+  at-end : k ≡ length l → Clean l k
+  after : 0 < k → byte l (k - 1) < 0x80 → Clean l k
+  before : byte l k < 0x80 → Clean l k
+
+-- the reason and the letter of a bad escape that ends a literal, which only a strict one can have
+pub record Blamed (l : List ℕ) (reason letter : ℕ) : Type 0 where
+  pub low : 5 ≤ reason
+  pub high : reason ≤ 9
+  pub named : letter ≡ byte l 1
+
+abbrev pub Named : Mode → List ℕ → End → Type 0
+Named m l end.Closed = Unit
+Named m l end.AtNewline = Unit
+Named m l end.Cut = Unit
+Named m l end.Open = Unit
+Named Strict l (end.Bad reason letter) = Blamed l reason letter
+Named Tolerant l (end.Bad reason letter) = ⊥
+
+-- a step that ends the literal, k bytes of l being taken
+pub record Ended (m : Mode) (l : List ℕ) (e : End) (k : ℕ) : Type 0 where
+  pub upto : k ≤ length l
+  pub named : Named m l e
+  pub clean : (endReason e ≡ 9 → ⊥) → Clean l k
+
+-- what a step at the offset `at` is, l being left
+abbrev pub Apt : Mode → ℕ → List ℕ → Step → Type 0
+Apt m at l (Go n a b c d used reason) = Went l n b used reason
+Apt m at l (Stop e p) = (at ≤ p) × Ended m l e (p - at)
+
+-- a literal that ends after one ASCII byte, or before it
+module _ (m : Mode) (at : ℕ) (l : List ℕ) (e : End) (named : Named m l e) (f : Front l) where
+  ends-after : (at ≤ at + 1) × Ended m l e (at + 1 - at)
+  ends-after =
+      let k : at + 1 - at ≡ 1 = omega arith in
+      (omega arith, rw k (record { upto = f .some; named = named; clean = λ _. after (lit≤ tt) (f .ascii) }))
+
+  ends-before : (at ≤ at) × Ended m l e (at - at)
+  ends-before =
+      let k : at - at ≡ 0 = omega arith in
+      (omega arith, rw k (record { upto = omega arith; named = named; clean = λ _. before (f .ascii) }))
+
+apt : (m : Mode) (at : ℕ) (l : List ℕ) (q : Piece) → Fine l q → Apt m at l (stepOf m at q)
+unfolding stepOf endReason
+apt m at l (piece.Bytes n a b c d used) f = record { taken = f; small = lit≤ tt; named = λ z. absurd (z refl) }
+apt Tolerant at l (piece.Bad reason letter used) f = record { taken = f .bytes; small = f .high; named = λ _. f .named }
+apt Strict at l (piece.Bad reason letter used) f =
+    let k : at + used - at ≡ used = omega arith in (
+      omega arith,
+      rw k
+          (record {
+            upto = f .bytes .left;
+            named = record { low = f .low; high = f .high; named = f .named };
+            clean = λ n. after (f .bytes .some) (f .last n);
+          }),
+    )
+apt m at l piece.Close f = ends-after m at l end.Closed tt f
+apt Strict at l piece.Newline f = ends-after Strict at l end.AtNewline tt f
+apt Tolerant at l piece.Newline f = ends-before Tolerant at l end.AtNewline tt f
+apt m at l piece.Cut f = ends-after m at l end.Cut tt f
+apt m at l piece.Open f =
+    let k : at - at ≡ 0 = omega arith in
+    (omega arith, rw k (record { upto = omega arith; named = tt; clean = λ _. at-end (sym f) }))
+
+decode-skip : (m : Mode) (at k : ℕ) (l : List ℕ) → k ≤ length l → decode m at k l ≡ decode m (at + k) 0 (drop k l)
+unfolding decode
+decode-skip m at zero l h = rw (add-zero at)
+decode-skip m at (suc k) [] h = absurd (omega arith)
+decode-skip m at (suc k) (x ∷ l) h = decode-skip m (suc at) k l (omega arith) ∙ rw (add-suc at k, suc-add at k)
+
+decode-at : (m : Mode) (at : ℕ) (l : List ℕ) → decode m at 0 l ≡ follow (stepOf m at (pieceOf l)) at (λ k. decode m (suc at) k (drop 1 l))
+unfolding decode stepOf pieceOf
+decode-at m at [] = refl
+decode-at m at (x ∷ l) = refl
+
+-- what the text from i on stands for
+abbrev pub from : Mode → List ℕ → ℕ → Decoded
+from m s i = decode m i 0 (drop i s)
+
+module _ (m : Mode) (s : List ℕ) (i : ℕ) (q : Step) (is : q ≡ stepOf m i (pieceOf (drop i s))) where
+  pub fit : Apt m i (drop i s) q
+  fit = rw is (apt m i (drop i s) (pieceOf (drop i s)) (fine (drop i s)))
+
+  pub from-stop : (e : End) (p : ℕ) → q ≡ Stop e p → from m s i ≡ finish e p
+  from-stop e p h = decode-at m i (drop i s) ∙ rw (sym is ∙ h)
+
+  module _ (n a b c d used reason : ℕ) (h : q ≡ Go n a b c d used reason) where
+    pub went : Went (drop i s) n b used reason
+    went = subst (λ (x : Step). Apt m i (drop i s) x) h fit
+
+    pub from-go : from m s i ≡ prepend (take n (a ∷ b ∷ c ∷ d ∷ [])) (stepNotes reason b i) (from m s (i + used))
+    from-go =
+        let t : Taken n used (length (drop i s)) = went .taken in
+        let l : List ℕ = drop i s in
+        let k : used - 1 ≤ length (drop 1 l) = omega (arith, length-drop 1 l) in
+        let x : suc i + (used - 1) ≡ i + used = omega arith in
+        let y : 1 + (used - 1) ≡ used = omega arith in
+        let r : decode m (suc i) (used - 1) (drop 1 l) ≡ from m s (i + used) =
+        decode-skip m (suc i) (used - 1) (drop 1 l) k ∙ rw (drop-drop (used - 1) 1 l, x, y, drop-drop used i s) in
+        decode-at m i l ∙ rw (sym is ∙ h, r)
+
+-- a claim of each step makes the claim of the whole
+module _ (m : Mode) (s : List ℕ) (P : ℕ → Decoded → Type 0)
+    (stops : (i : ℕ) (e : End) (p : ℕ) → i ≤ length s → i ≤ p → Ended m (drop i s) e (p - i) → P i (finish e p))
+    (goes : (i n a b c d used reason : ℕ) (r : Decoded) → i ≤ length s → Went (drop i s) n b used reason → P (i + used) r
+    → P i (prepend (take n (a ∷ b ∷ c ∷ d ∷ [])) (stepNotes reason b i) r)) where
+  step : (n i : ℕ) → length s ≤ i + n → i ≤ length s → ((j : ℕ) → length s + 1 ≤ j + n → j ≤ length s → P j (from m s j))
+      → (q : Step) → q ≡ stepOf m i (pieceOf (drop i s)) → Apt m i (drop i s) q → P i (from m s i)
+  step n i h k ih (Stop e p) is f = rw (from-stop m s i (Stop e p) is e p refl) (stops i e p k (f .0) (f .1))
+  step n i h k ih (Go w a b c d used reason) is f =
+      let t : Taken w used (length (drop i s)) = f .taken in
+      rw (from-go m s i (Go w a b c d used reason) is w a b c d used reason refl)
+      (goes i w a b c d used reason (from m s (i + used)) k f (ih (i + used) (omega arith) (omega (arith, length-drop i s))))
+
+  along : (n i : ℕ) → length s ≤ i + n → i ≤ length s → P i (from m s i)
+  along zero i h k = step zero i h k (λ j x y. absurd (omega arith)) (stepOf m i (pieceOf (drop i s))) refl (fit m s i (stepOf m i (pieceOf (drop i s))) refl)
+  along (suc n) i h k =
+      step (suc n) i h k (λ j x y. along n j (omega arith) y) (stepOf m i (pieceOf (drop i s))) refl (fit m s i (stepOf m i (pieceOf (drop i s))) refl)
+
+  pub by-steps : (i : ℕ) → i ≤ length s → P i (from m s i)
+  by-steps i h = along (length s) i (omega arith) h
+
+-- a byte that stands for itself
+ordinary-piece : (x : ℕ) (l : List ℕ) → isOrdinary x ≡ true → pieceOf (x ∷ l) ≡ piece.Bytes 1 x 0 0 0 1
+unfolding isOrdinary pieceOf
+ordinary-piece x l e =
+    let p = not (eqb x 0x22) in
+    let q = not (eqb x 0x0A) in
+    let r = not (eqb x 0x5C) in
+    let u = and-left (p && q) r e in
+    simp (not-true (eqb x 0x22) (and-left p q u), not-true (eqb x 0x0A) (and-right p q u), not-true (eqb x 0x5C) (and-right (p && q) r e))
+
+-- a run of them
+module _ (m : Mode) (p : ℕ → ℕ → Bool) (ordinary : (a b : ℕ) → p a b ≡ true → isOrdinary a ≡ true) where
+  decode-run : (at : ℕ) (l : List ℕ) → decode m at 0 l ≡ prepend (take (run p l) l) [] (decode m (at + run p l) 0 (drop (run p l) l))
+  unfolding run decode stepOf stepNotes
+  decode-run at [] = rw add-zero
+  decode-run at (x ∷ l) = go (p x (byte l 0)) refl (decode-run (suc at) l)
+    where
+      go : (b : Bool) → p x (byte l 0) ≡ b
+          → decode m (suc at) 0 l ≡ prepend (take (run p l) l) [] (decode m (suc at + run p l) 0 (drop (run p l) l))
+          → decode m at 0 (x ∷ l) ≡ prepend (take (pick b (suc (run p l)) 0) (x ∷ l)) []
+          (decode m (at + pick b (suc (run p l)) 0) 0 (drop (pick b (suc (run p l)) 0) (x ∷ l)))
+      go true e ih =
+          rw (ordinary-piece x l (ordinary x (byte l 0) e))
+          (ap (prepend (x ∷ []) []) (ih ∙ ap (λ (k : ℕ). prepend (take (run p l) l) [] (decode m k 0 (drop (run p l) l))) (omega arith)))
+      go false e ih = rw add-zero
+
+  -- the run from i on gives its own bytes, and then what the text from its end on gives
+  pub from-run : (s : List ℕ) (i : ℕ) → from m s i ≡ prepend (take (reach p s i - i) (drop i s)) [] (from m s (reach p s i))
+  unfolding reach
+  from-run s i =
+      let k : i + run p (drop i s) - i ≡ run p (drop i s) = omega arith in
+      decode-run i (drop i s) ∙ rw (k, drop-drop (run p (drop i s)) i s)

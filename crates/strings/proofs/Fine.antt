@@ -1,0 +1,183 @@
+-- What every piece has: it takes at least one byte and no more than there are, and gives no more bytes than it takes; a bad escape's letter
+-- stands after the backslash, and an ASCII byte before its end, where its reason is not 9. By cases on the tests. Assumes nothing.
+use mathlib.Core.Path.{_≡_, refl, sym}
+use mathlib.Core.Bool.{Bool, true, false, _&&_}
+use mathlib.Core.List.{List, [], _∷_}
+use Prim.Native.Nat.{ℕ, zero, suc, _+_, _-_, _≤_, _<_}
+use native.Mathlib.Omega.{arith}
+use borrow.Author.Tests.{ltb-true, ltb-false, eqb-true, eqb-false}
+use lib.Dec.{ltb, eqb, lit≤}
+use lib.ListN.{length, drop, length-drop}
+use lib.Seq.{getD-drop}
+use Rattle.base.specs.Choice.{pick}
+use Rattle.base.specs.Bytes.{byte, within}
+use Rattle.base.proofs.Tests.{and-right, in-text, over, pick-case, true-false, within-high}
+use Rattle.utf8.specs.Character.{isScalar, encodeOf}
+use Rattle.strings.specs.Piece.{hexOf, octOf, simpleOf, hexPiece, octPiece, hexCount, hexValue, codePiece, escapePiece, pieceOf}
+use Rattle.strings.specs.declared.piece.Piece.{Piece}
+use Rattle.strings.specs.declared.piece.Piece.the-variants.{Bytes, Bad, Close, Newline, Cut, Open}
+
+-- n bytes out of `used`, where m are left
+pub record Taken (n used m : ℕ) : Type 0 where
+  pub some : 1 ≤ used
+  pub left : used ≤ m
+  pub less : n ≤ used
+  pub four : n ≤ 4
+
+taken : (n used m : ℕ) → 1 ≤ used → used ≤ m → n ≤ used → n ≤ 4 → Taken n used m
+taken n used m a b c d = record { some = a; left = b; less = c; four = d }
+
+-- a bad escape of `used` bytes at the front of l
+pub record Refused (l : List ℕ) (reason letter used : ℕ) : Type 0 where
+  pub bytes : Taken 2 used (length l)
+  pub low : 5 ≤ reason
+  pub high : reason ≤ 9
+  pub named : letter ≡ byte l 1
+  pub last : (reason ≡ 9 → ⊥) → byte l (used - 1) < 0x80
+
+refused : (l : List ℕ) (reason letter used : ℕ) → Taken 2 used (length l) → 5 ≤ reason → reason ≤ 9 → letter ≡ byte l 1
+    → ((reason ≡ 9 → ⊥) → byte l (used - 1) < 0x80) → Refused l reason letter used
+refused l reason letter used t a b n e = record { bytes = t; low = a; high = b; named = n; last = e }
+
+-- an ASCII byte at the front
+pub record Front (l : List ℕ) : Type 0 where
+  pub some : 1 ≤ length l
+  pub ascii : byte l 0 < 0x80
+
+abbrev pub Fine : List ℕ → Piece → Type 0
+Fine l (Bytes n a b c d used) = Taken n used (length l)
+Fine l (Bad reason letter used) = Refused l reason letter used
+Fine l Close = Front l
+Fine l Newline = Front l
+Fine l Cut = Front l
+Fine l Open = length l ≡ 0
+
+-- a choice of pieces
+fine-pick : (l : List ℕ) (b : Bool) (p q : Piece) → (b ≡ true → Fine l p) → (b ≡ false → Fine l q) → Fine l (pick b p q)
+fine-pick l b p q f g = pick-case (Fine l) b f g
+
+-- a digit is an ASCII byte
+hex-ascii : (x : ℕ) → ltb (hexOf x) 16 ≡ true → x < 0x80
+unfolding hexOf
+hex-ascii x e = go (ltb x 0x80) refl
+  where
+    go : (b : Bool) → ltb x 0x80 ≡ b → x < 0x80
+    go true t = ltb-true x 0x80 t
+    go false t =
+        let h = ltb-false x 0x80 t in
+        true-false true refl (sym (rw (over 48 57 x (omega arith), over 65 70 x (omega arith), over 97 102 x (omega arith)) at e))
+
+count-le : (n : ℕ) (l : List ℕ) → hexCount n l ≤ n
+unfolding hexCount
+count-le zero l = omega arith
+count-le (suc n) [] = omega arith
+count-le (suc n) (x ∷ l) = go (ltb (hexOf x) 16) (count-le n l)
+  where
+    go : (b : Bool) → hexCount n l ≤ n → pick b (suc (hexCount n l)) 0 ≤ suc n
+    go true h = omega arith
+    go false h = omega arith
+
+-- the last digit that is counted is an ASCII byte
+count-last : (n : ℕ) (l : List ℕ) (k : ℕ) → hexCount n l ≡ suc k → byte l k < 0x80
+unfolding hexCount
+count-last zero l k e = absurd (omega arith)
+count-last (suc n) [] k e = absurd (omega arith)
+count-last (suc n) (x ∷ l) k e = go (ltb (hexOf x) 16) refl k e (count-last n l)
+  where
+    go : (b : Bool) → ltb (hexOf x) 16 ≡ b → (k : ℕ) → pick b (suc (hexCount n l)) 0 ≡ suc k → ((j : ℕ) → hexCount n l ≡ suc j → byte l j < 0x80)
+        → byte (x ∷ l) k < 0x80
+    go true t zero e ih = hex-ascii x t
+    go true t (suc k) e ih = ih k (omega arith)
+    go false t k e ih = absurd (omega arith)
+
+encode-le : (r : ℕ) → length (encodeOf r) ≤ 4
+unfolding encodeOf
+encode-le r =
+    let short : List ℕ → Type 0 = λ l. length l ≤ 4 in
+    pick-case short (ltb r 0x80) (λ _. lit≤ tt)
+    (λ _. pick-case short (ltb r 0x800) (λ _. lit≤ tt) (λ _. pick-case short (ltb r 0x10000) (λ _. lit≤ tt) (λ _. lit≤ tt)))
+
+hex-zero : ltb (hexOf 0) 16 ≡ false
+unfolding hexOf
+hex-zero = refl
+
+oct-zero : ltb (octOf 0) 8 ≡ false
+unfolding octOf
+oct-zero = refl
+
+module _ (t : List ℕ) (two : 1 < length t) where
+  bad-2 : (reason letter : ℕ) → 5 ≤ reason → reason ≤ 9 → letter ≡ byte t 1 → ((reason ≡ 9 → ⊥) → byte t 1 < 0x80) → Fine t (Bad reason letter 2)
+  bad-2 reason letter a b n e = refused t reason letter 2 (taken 2 2 (length t) (lit≤ tt) two (lit≤ tt) (lit≤ tt)) a b n e
+
+  one-4 : 3 < length t → Taken 1 4 (length t)
+  one-4 h = taken 1 4 (length t) (lit≤ tt) h (lit≤ tt) (lit≤ tt)
+
+  fine-hex : byte t 1 ≡ 0x78 → Fine t (hexPiece t)
+  unfolding hexPiece
+  fine-hex x =
+      let a = ltb (hexOf (byte t 2)) 16 in
+      let b = ltb (hexOf (byte t 3)) 16 in
+      fine-pick t (a && b) _ _ (λ e. one-4 (in-text (λ (c : ℕ). ltb (hexOf c) 16) t 3 hex-zero (and-right a b e)))
+      (λ _. bad-2 5 0x78 (lit≤ tt) (lit≤ tt) (sym x) (λ _. omega arith))
+
+  fine-oct : byte t 1 < 0x80 → Fine t (octPiece (byte t 1) t)
+  unfolding octPiece
+  fine-oct h =
+      let a = ltb (octOf (byte t 2)) 8 in
+      let b = ltb (octOf (byte t 3)) 8 in
+      fine-pick t (a && b) _ _ (λ e. one-4 (in-text (λ (c : ℕ). ltb (octOf c) 8) t 3 oct-zero (and-right a b e)))
+      (λ _. bad-2 6 (byte t 1) (lit≤ tt) (lit≤ tt) refl (λ _. h))
+
+  -- what stands before the end of the digits that are counted
+  code-last : (n : ℕ) → byte t 1 < 0x80 → byte t (hexCount n (drop 2 t) + 2 - 1) < 0x80
+  code-last n h = go (hexCount n (drop 2 t)) refl
+    where
+      go : (k : ℕ) → hexCount n (drop 2 t) ≡ k → byte t (k + 2 - 1) < 0x80
+      go zero e = h
+      go (suc k) e =
+          let j : suc k + 2 - 1 ≡ 2 + k = omega arith in
+          rw (j, ← getD-drop 2 t k 0) (count-last n (drop 2 t) k e)
+
+  fine-code : (n reason letter : ℕ) → 2 ≤ n → 5 ≤ reason → reason ≤ 8 → letter ≡ byte t 1 → byte t 1 < 0x80 → Fine t (codePiece n reason letter (drop 2 t))
+  unfolding codePiece
+  fine-code n reason letter h lo hi nm ascii =
+      let l = drop 2 t in
+      let bad : n ≤ length l → Fine t (Bad reason letter (hexCount n l + 2)) =
+      λ b. refused t reason letter (hexCount n l + 2)
+      (taken 2 (hexCount n l + 2) (length t) (omega arith) (omega (arith, length-drop 2 t, count-le n l)) (omega arith) (lit≤ tt))
+      lo (omega arith) nm (λ _. code-last n ascii) in
+      fine-pick t (ltb (length l) n) _ _ (λ _. bad-2 reason letter lo (omega arith) nm (λ _. ascii))
+      (λ e. let b : n ≤ length l = ltb-false (length l) n e in
+      fine-pick t (ltb (hexCount n l) n) _ _ (λ _. bad b)
+      (λ f. fine-pick t (isScalar (hexValue n 0 l)) _ _
+      (λ _. taken _ (n + 2) (length t) (omega arith) (omega (arith, length-drop 2 t)) (omega (arith, encode-le (hexValue n 0 l))) (encode-le (hexValue n 0 l)))
+      (λ _. let q : hexCount n l ≡ n = omega (arith, count-le n l, ltb-false (hexCount n l) n f) in rw q at (bad b))))
+
+  fine-escape : Fine t (escapePiece t)
+  unfolding escapePiece
+  fine-escape =
+      let e : ℕ = byte t 1 in
+      fine-pick t (eqb (simpleOf e) 0) _ _
+      (λ _. fine-pick t (eqb e 0x78) _ _ (λ x. fine-hex (eqb-true e 0x78 x))
+      (λ _. fine-pick t (eqb e 0x75) _ _
+      (λ x. let q = eqb-true e 0x75 x in fine-code 4 7 0x75 (lit≤ tt) (lit≤ tt) (lit≤ tt) (sym q) (omega arith))
+      (λ _. fine-pick t (eqb e 0x55) _ _
+      (λ x. let q = eqb-true e 0x55 x in fine-code 8 8 0x55 (lit≤ tt) (lit≤ tt) (lit≤ tt) (sym q) (omega arith))
+      (λ _. fine-pick t (within 48 51 e) _ _ (λ x. let q = within-high 48 51 e x in fine-oct (omega arith))
+      (λ _. bad-2 9 e (lit≤ tt) (lit≤ tt) refl (λ n. absurd (n refl)))))))
+      (λ _. taken 1 2 (length t) (lit≤ tt) two (lit≤ tt) (lit≤ tt))
+
+front : (c : ℕ) (l : List ℕ) (k : ℕ) → eqb c k ≡ true → k < 0x80 → Front (c ∷ l)
+front c l k e h = let q = eqb-true c k e in record { some = omega arith; ascii = omega arith }
+
+pub fine : (l : List ℕ) → Fine l (pieceOf l)
+unfolding pieceOf
+fine [] = refl
+fine (c ∷ l) =
+    let t = c ∷ l in
+    fine-pick t (eqb c 0x22) _ _ (λ e. front c l 0x22 e (omega arith))
+    (λ _. fine-pick t (eqb c 0x0A) _ _ (λ e. front c l 0x0A e (omega arith))
+    (λ _. fine-pick t (eqb c 0x5C) _ _
+    (λ s. fine-pick t (eqb (length l) 0) _ _ (λ _. front c l 0x5C s (omega arith))
+    (λ e. let n : length l ≡ 0 → ⊥ = eqb-false (length l) 0 e in fine-escape t (omega arith)))
+    (λ _. taken 1 1 (length t) (lit≤ tt) (omega arith) (lit≤ tt) (lit≤ tt))))

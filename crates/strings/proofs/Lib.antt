@@ -1,0 +1,11 @@
+pub mod Values
+pub mod Escapes
+pub mod Fine
+pub mod Steps
+pub mod Decodes
+pub mod Turns
+pub mod Bounds
+pub mod Judges
+pub mod Notings
+pub mod Laws
+pub mod Examples

@@ -1,0 +1,193 @@
+-- What `step_at`, `feed`, `put` and the scans of runs return. Assumes nothing.
+use mathlib.Core.Path.{_≡_, refl, sym, _∙_, subst}
+use mathlib.Core.Bool.{Bool, true, false, _&&_}
+use mathlib.Core.List.{List, [], _∷_}
+use Prim.Native.Nat.{ℕ, zero, suc, _+_, _-_, _^_, _≤_, _<_}
+use native.Mathlib.Nat.{add-zero}
+use native.Mathlib.Numerals.{add-one}
+use native.Mathlib.Omega.{arith}
+use borrow.Author.Tests.{eq-eqb, ne-eqb}
+use lib.Dec.{eqb, ltb}
+use lib.ListN.{length, drop, take, set, length-drop}
+use lib.Seq.{sets}
+use mir.Syntax.{w64}
+use mir.Val.{Fits}
+use Rattle.base.specs.Choice.{pick}
+use Rattle.base.specs.Bytes.{byte}
+use Rattle.base.specs.Runs.{reach}
+use Rattle.base.proofs.Tests.{and-left, and-right}
+use Rattle.base.proofs.Reaches.{rest-is, reach-step, reach-stop, reach-end}
+use Rattle.utf8.specs.State.{push, pushAll}
+use Rattle.utf8.specs.declared.state.State.{State}
+use Rattle.lexeme.specs.declared.Mode.{Mode}
+use Rattle.lexeme.specs.declared.Mode.the-variants.{Strict, Tolerant}
+use Rattle.strings.specs.Piece.{pieceOf}
+use Rattle.strings.specs.Plain.{isOrdinary, isPlain, inOrdinary, inPlain, plainFrom, WithinRuns}
+use Rattle.strings.specs.Decode.{stepOf}
+use Rattle.strings.specs.declared.piece.Piece.{Piece}
+use Rattle.strings.specs.declared.piece.Piece.the-variants as piece
+use Rattle.strings.specs.declared.literal.End.the-variants as end
+use Rattle.strings.specs.declared.literal.Step.{Step}
+use Rattle.strings.specs.declared.literal.Step.the-variants.{Go, Stop}
+use Rattle.strings.proofs.Fine.{Fine, Refused, fine}
+
+-- `step_at`
+module _ (m : Mode) (i : ℕ) (s : List ℕ) (q : Piece) (is : q ≡ pieceOf (take (length s - i) (drop i s))) where
+  here : q ≡ pieceOf (drop i s)
+  here = rw (rest-is s i) at is
+
+  pub step-bytes : (n a b c d used : ℕ) → q ≡ piece.Bytes n a b c d used → Go n a b c d used 0 ≡ stepOf m i (pieceOf (drop i s))
+  unfolding stepOf
+  step-bytes n a b c d used e = rw (← here, e)
+
+  pub step-kept : (reason letter used : ℕ) → q ≡ piece.Bad reason letter used → m ≡ Tolerant → Go 2 0x5C letter 0 0 used reason ≡ stepOf m i (pieceOf (drop i s))
+  unfolding stepOf
+  step-kept reason letter used e t = rw (← here, e, t)
+
+  module _ (r : Step) where
+    pub step-bad : (reason letter used : ℕ) → q ≡ piece.Bad reason letter used → m ≡ Strict → r ≡ Stop (end.Bad reason letter) (i + used)
+        → r ≡ stepOf m i (pieceOf (drop i s))
+    unfolding stepOf
+    step-bad reason letter used e t f = rw (← here, e, t) f
+
+    pub step-close : q ≡ piece.Close → r ≡ Stop end.Closed (i + 1) → r ≡ stepOf m i (pieceOf (drop i s))
+    unfolding stepOf
+    step-close e f = rw (← here, e) f
+
+    pub step-newline : q ≡ piece.Newline → m ≡ Strict → r ≡ Stop end.AtNewline (i + 1) → r ≡ stepOf m i (pieceOf (drop i s))
+    unfolding stepOf
+    step-newline e t f = rw (← here, e, t) f
+
+    pub step-newline-kept : q ≡ piece.Newline → m ≡ Tolerant → r ≡ Stop end.AtNewline i → r ≡ stepOf m i (pieceOf (drop i s))
+    unfolding stepOf
+    step-newline-kept e t f = rw (← here, e, t) f
+
+    pub step-cut : q ≡ piece.Cut → r ≡ Stop end.Cut (i + 1) → r ≡ stepOf m i (pieceOf (drop i s))
+    unfolding stepOf
+    step-cut e f = rw (← here, e) f
+
+    pub step-open : q ≡ piece.Open → r ≡ Stop end.Open i → r ≡ stepOf m i (pieceOf (drop i s))
+    unfolding stepOf
+    step-open e f = rw (← here, e) f
+
+-- the end of a bad escape is within the text
+pub bad-fits : (s : List ℕ) (i : ℕ) (q : Piece) (reason letter used : ℕ) → i ≤ length s → length s < 2 ^ 64
+    → q ≡ pieceOf (take (length s - i) (drop i s)) → q ≡ piece.Bad reason letter used → Fits w64 (i + used)
+bad-fits s i q reason letter used h f e k =
+    let p : pieceOf (drop i s) ≡ piece.Bad reason letter used = sym (rw (rest-is s i) at e) ∙ k in
+    let u : Refused (drop i s) reason letter used = subst (λ (x : Piece). Fine (drop i s) x) p (fine (drop i s)) in
+    omega (arith, u .bytes .left, length-drop i s)
+
+-- `report_count`
+pub count-none : (reason : ℕ) → reason ≡ 0 → _≡_ {A = ℕ} 0 (pick (eqb reason 0) 0 1)
+count-none reason e = simp (eq-eqb reason 0 e)
+
+pub count-one : (reason : ℕ) → (reason ≡ 0 → ⊥) → _≡_ {A = ℕ} 1 (pick (eqb reason 0) 0 1)
+count-one reason e = simp (ne-eqb reason 0 e)
+
+-- `feed`
+module _ (t : State) (n a b c d : ℕ) where
+  pub feed-0 : n ≡ 0 → t ≡ pushAll t (take n (a ∷ b ∷ c ∷ d ∷ []))
+  unfolding pushAll
+  feed-0 e = rw e
+
+  module _ (t₁ : State) (e₁ : t₁ ≡ push t a) where
+    pub feed-1 : n ≡ 1 → t₁ ≡ pushAll t (take n (a ∷ b ∷ c ∷ d ∷ []))
+    unfolding pushAll
+    feed-1 e = rw (e, e₁)
+
+    module _ (t₂ : State) (e₂ : t₂ ≡ push t₁ b) where
+      pub feed-2 : n ≡ 2 → t₂ ≡ pushAll t (take n (a ∷ b ∷ c ∷ d ∷ []))
+      unfolding pushAll
+      feed-2 e = rw (e, e₂, e₁)
+
+      module _ (t₃ : State) (e₃ : t₃ ≡ push t₂ c) where
+        pub feed-3 : n ≡ 3 → t₃ ≡ pushAll t (take n (a ∷ b ∷ c ∷ d ∷ []))
+        unfolding pushAll
+        feed-3 e = rw (e, e₃, e₂, e₁)
+
+        pub feed-4 : (t₄ : State) → t₄ ≡ push t₃ d → n ≤ 4 → (n ≡ 0 → ⊥) → (n ≡ 1 → ⊥) → (n ≡ 2 → ⊥) → (n ≡ 3 → ⊥)
+            → t₄ ≡ pushAll t (take n (a ∷ b ∷ c ∷ d ∷ []))
+        unfolding pushAll
+        feed-4 t₄ e₄ h n₀ n₁ n₂ n₃ = let e : n ≡ 4 = omega arith in rw (e, e₄, e₃, e₂, e₁)
+
+-- `put`
+two : (p : ℕ) → p + 2 ≡ suc (suc p)
+two p = omega arith
+
+three : (p : ℕ) → p + 3 ≡ suc (suc (suc p))
+three p = omega arith
+
+module _ (o : List ℕ) (p n a b c d : ℕ) where
+  pub put-1 : n ≡ 1 → set o p a ≡ sets o p (take n (a ∷ b ∷ c ∷ d ∷ []))
+  put-1 e = rw e
+
+  pub put-2 : n ≡ 2 → set (set o p a) (p + 1) b ≡ sets o p (take n (a ∷ b ∷ c ∷ d ∷ []))
+  put-2 e = rw (e, add-one p)
+
+  pub put-3 : n ≡ 3 → set (set (set o p a) (p + 1) b) (p + 2) c ≡ sets o p (take n (a ∷ b ∷ c ∷ d ∷ []))
+  put-3 e = rw (e, add-one p, two p)
+
+  pub put-4 : n ≤ 4 → (n ≡ 0 → ⊥) → (n ≡ 1 → ⊥) → (n ≡ 2 → ⊥) → (n ≡ 3 → ⊥)
+      → set (set (set (set o p a) (p + 1) b) (p + 2) c) (p + 3) d ≡ sets o p (take n (a ∷ b ∷ c ∷ d ∷ []))
+  put-4 h n₀ n₁ n₂ n₃ = let e : n ≡ 4 = omega arith in rw (e, add-one p, two p, three p)
+
+-- a scan of a run of bytes that pass a test, at e
+module _ (f : ℕ → Bool) (s : List ℕ) (i e : ℕ) (inv : reach (λ (a b : ℕ). f a) s e ≡ reach (λ (a b : ℕ). f a) s i) where
+  module _ (t : Bool) (h : e < length s) (q : t ≡ f (byte s e)) where
+    pub scan-more : t ≡ true → reach (λ (a b : ℕ). f a) s (e + 1) ≡ reach (λ (a b : ℕ). f a) s i
+    scan-more y = reach-step (λ (a b : ℕ). f a) s e h (sym q ∙ y) ∙ inv
+
+    pub scan-stop : t ≡ false → e ≡ reach (λ (a b : ℕ). f a) s i
+    scan-stop y = sym (reach-stop (λ (a b : ℕ). f a) s e h (sym q ∙ y)) ∙ inv
+
+    -- the same of a run that is looked for only where nothing is needed
+    pub scan-stop-0 : (need : ℕ) → need ≡ 0 → t ≡ false → e ≡ pick (eqb need 0) (reach (λ (a b : ℕ). f a) s i) i
+    scan-stop-0 need z y = rw (eq-eqb need 0 z) (scan-stop y)
+
+  pub scan-end : length s ≤ e → e ≡ reach (λ (a b : ℕ). f a) s i
+  scan-end h = sym (reach-end (λ (a b : ℕ). f a) s e h) ∙ inv
+
+  pub scan-end-0 : (need : ℕ) → need ≡ 0 → length s ≤ e → e ≡ pick (eqb need 0) (reach (λ (a b : ℕ). f a) s i) i
+  scan-end-0 need z h = rw (eq-eqb need 0 z) (scan-end h)
+
+pub scan-none : (need i x : ℕ) → (need ≡ 0 → ⊥) → i ≡ pick (eqb need 0) x i
+scan-none need i x n = rw (ne-eqb need 0 n)
+
+-- `is_plain_block`: one byte more
+pub block-more : (s : List ℕ) (e k : ℕ) (t x : Bool) → t ≡ plainFrom s e k → x ≡ isPlain (byte s (e + k)) → t && x ≡ plainFrom s e (k + 1)
+unfolding plainFrom
+block-more s e k t x p q = rw (add-one k, p, q)
+
+pub block-end : (s : List ℕ) (e k : ℕ) (t : Bool) → t ≡ plainFrom s e k → k ≤ 8 → 8 ≤ k → t ≡ plainFrom s e 8
+block-end s e k t p h l = let q : k ≡ 8 = omega arith in rw q at p
+
+-- plain bytes are in every run that takes them
+module _ (p : ℕ → ℕ → Bool) (passes : (a b : ℕ) → isPlain a ≡ true → p a b ≡ true) (s : List ℕ) (i : ℕ) where
+  plain-reach : (n : ℕ) → i + n ≤ length s → plainFrom s i n ≡ true → reach p s (i + n) ≡ reach p s i
+  unfolding plainFrom
+  plain-reach zero h e = rw (add-zero i)
+  plain-reach (suc n) h e =
+      let q : i + suc n ≡ i + n + 1 = omega arith in
+      let b = byte s (i + n) in
+      rw q
+      (reach-step p s (i + n) (omega arith) (passes b (byte s (i + n + 1)) (and-right (plainFrom s i n) (isPlain b) e))
+      ∙ plain-reach n (omega arith) (and-left (plainFrom s i n) (isPlain b) e))
+
+pub plain-ordinary : (a b : ℕ) → inPlain a b ≡ true → isOrdinary a ≡ true
+unfolding isPlain
+plain-ordinary a b e = and-right (ltb a 0x80) (isOrdinary a) e
+
+-- `skip_blocks`
+pub skip-none : (s : List ℕ) (i : ℕ) → i ≤ length s → WithinRuns s i i
+skip-none s i h = record { upto = h; ordinary = refl; plain = refl }
+
+pub skip-block : (s : List ℕ) (i e : ℕ) (t : Bool) → WithinRuns s i e → 8 ≤ length s - e → t ≡ plainFrom s e 8 → t ≡ true → WithinRuns s i (e + 8)
+skip-block s i e t w h q y =
+    let u : e + 8 ≤ length s = omega (arith, w .upto) in
+    let f : plainFrom s e 8 ≡ true = sym q ∙ y in
+    record {
+      upto = u;
+      ordinary = plain-reach inOrdinary plain-ordinary s e 8 u f ∙ w .ordinary;
+      plain = plain-reach inPlain (λ a b t. t) s e 8 u f ∙ w .plain;
+    }

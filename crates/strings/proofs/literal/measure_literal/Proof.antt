@@ -1,0 +1,90 @@
+-- `measure_literal` measures what is left with what is counted already: a run of plain bytes at once, and then a step. Assumes nothing.
+use Rattle.strings.proofs.Turns.{Measuring, measuring-first, run-ge, run-fits, run-in, feed-four, count-fits, reports-fits, offset-fits, offset-less, measuring-go, measuring-stop}
+use lib.ListN.{length}
+use Prim.Native.Nat.{_-_}
+use borrow.Author.Needs.{needs}
+use Rattle.strings.proofs.literal.measure_literal.Statement.{statement}
+use Rattle.strings.proofs.literal.measure_literal.Tie as tie
+
+abbrev Inv-loop : tie.InvT-loop
+Inv-loop s mode i₀ count₀ reports₀ state₀ i count reports state = Measuring mode s i count reports state
+
+abbrev μ-loop : tie.MeasureT-loop
+μ-loop s mode i₀ count₀ reports₀ state₀ i count reports state = length s - i
+
+start-requires : tie.Need-start-requires Inv-loop μ-loop
+start-requires c κs = search needs
+
+loop-holds : tie.Need-loop-holds Inv-loop μ-loop
+loop-holds c = search measuring-first
+
+plain-end-requires : tie.Need-plain-end-requires Inv-loop μ-loop
+plain-end-requires c κs = search needs
+
+sub-count : tie.Need-sub-count Inv-loop μ-loop
+sub-count c = search run-ge
+
+add-count : tie.Need-add-count Inv-loop μ-loop
+add-count c = search run-fits
+
+step-at-requires : tie.Need-step-at-requires Inv-loop μ-loop
+step-at-requires c κs = search run-in
+
+enum-known-st : tie.Need-enum-known-st Inv-loop μ-loop
+enum-known-st c = search needs
+
+feed-requires : tie.Need-feed-requires Inv-loop μ-loop
+feed-requires c κs = search feed-four
+
+add-count-2 : tie.Need-add-count-2 Inv-loop μ-loop
+add-count-2 c = search count-fits
+
+report-count-requires : tie.Need-report-count-requires Inv-loop μ-loop
+report-count-requires c κs = search needs
+
+add-reports : tie.Need-add-reports Inv-loop μ-loop
+add-reports c = search reports-fits
+
+add-i : tie.Need-add-i Inv-loop μ-loop
+add-i c =
+    let k = c .before .before .before .before .before in
+    search (offset-fits _ _ _ _ _ _ (k .before .before .loop .inv) _ (k .before .plain-end .ensures) _ (k .step-at .ensures))
+
+loop-less : tie.Need-loop-less Inv-loop μ-loop
+loop-less c =
+    let k = c .before .before .before .before .before in
+    search (offset-less _ _ _ _ _ _ (k .before .before .loop .inv) _ (k .before .plain-end .ensures) _ (k .step-at .ensures))
+
+loop-again : tie.Need-loop-again Inv-loop μ-loop
+loop-again c =
+    let k = c .before .before .before .before .before in
+    search (measuring-go _ _ _ _ _ _ (k .before .before .loop .inv) _ (k .before .plain-end .ensures) _ (k .step-at .ensures))
+
+enum-known-st-2 : tie.Need-enum-known-st-2 Inv-loop μ-loop
+enum-known-st-2 c = search needs
+
+returns : tie.Need-returns Inv-loop μ-loop
+returns c = search measuring-stop
+
+pub measure-literal-spec : {M : Type 1} → statement M
+measure-literal-spec =
+    tie.close
+    (tie.spec
+    Inv-loop
+    μ-loop
+    start-requires
+    loop-holds
+    plain-end-requires
+    sub-count
+    add-count
+    step-at-requires
+    enum-known-st
+    feed-requires
+    add-count-2
+    report-count-requires
+    add-reports
+    add-i
+    loop-less
+    loop-again
+    enum-known-st-2
+    returns)

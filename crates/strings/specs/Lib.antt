@@ -1,0 +1,5 @@
+pub mod Piece
+pub mod Decode
+pub mod Literal
+pub mod Plain
+pub mod Notes

@@ -1,0 +1,87 @@
+-- One step of a string literal: a byte, an escape, or what ends it. From `lex_string`, `read_hex_byte`, `read_oct_rest`, `read_hex_rune`.
+use mathlib.Core.Bool.{_&&_}
+use mathlib.Core.List.{List, [], _∷_}
+use Prim.Native.Nat.{ℕ, zero, suc, _+_, _-_, _*_}
+use lib.Dec.{ltb, eqb}
+use lib.ListN.{length, drop}
+use Rattle.base.specs.Choice.{pick}
+use Rattle.base.specs.Bytes.{byte, within}
+use Rattle.utf8.specs.Character.{isScalar, encodeOf}
+use Rattle.strings.specs.declared.piece.Piece.{Piece}
+use Rattle.strings.specs.declared.piece.Piece.the-variants as piece
+
+-- `hex_val`: a hexadecimal digit's value, and 16 of any other byte
+unfoldable pub hexOf : ℕ → ℕ
+hexOf c = pick (within 48 57 c) (c - 48) (pick (within 65 70 c) (c - 55) (pick (within 97 102 c) (c - 87) 16))
+
+-- `oct_val`: an octal digit's value, and 8 of any other byte
+unfoldable pub octOf : ℕ → ℕ
+octOf c = pick (within 48 55 c) (c - 48) 8
+
+abbrev pub look : List (ℕ × ℕ) → ℕ → ℕ
+look [] e = 0
+look (p ∷ ps) e = pick (eqb e (p .0)) (p .1) (look ps e)
+
+-- the escapes of one letter: the letter and the byte that it stands for
+unfoldable pub letters : List (ℕ × ℕ)
+letters =
+    (0x22, 0x22) ∷ (0x5C, 0x5C) ∷ (0x27, 0x27) ∷ (0x3F, 0x3F)
+    ∷ (0x61, 0x07) ∷ (0x62, 0x08) ∷ (0x66, 0x0C) ∷ (0x6E, 0x0A) ∷ (0x72, 0x0D) ∷ (0x74, 0x09) ∷ (0x76, 0x0B) ∷ []
+
+-- the byte that a letter stands for, and 0 where it is none of them
+unfoldable pub simpleOf : ℕ → ℕ
+unfolding letters
+simpleOf e = look letters e
+
+-- at most four bytes from a list, with how many bytes of text they stand for
+abbrev pub bytesPiece : List ℕ → ℕ → Piece
+bytesPiece l used = piece.Bytes (length l) (byte l 0) (byte l 1) (byte l 2) (byte l 3) used
+
+-- `\x` and two digits, the list standing at the backslash. Past the end `byte` gives 0, which is no digit
+unfoldable pub hexPiece : List ℕ → Piece
+hexPiece l =
+    pick (ltb (hexOf (byte l 2)) 16 && ltb (hexOf (byte l 3)) 16) (piece.Bytes 1 (hexOf (byte l 2) * 16 + hexOf (byte l 3)) 0 0 0 4) (piece.Bad 5 0x78 2)
+
+-- a digit from 0 to 3 and two octal digits
+unfoldable pub octPiece : ℕ → List ℕ → Piece
+octPiece first l =
+    pick (ltb (octOf (byte l 2)) 8 && ltb (octOf (byte l 3)) 8) (piece.Bytes 1 ((first - 48) * 64 + octOf (byte l 2) * 8 + octOf (byte l 3)) 0 0 0 4)
+    (piece.Bad 6 first 2)
+
+-- how many of the first n bytes are digits before the first that is none
+unfoldable pub hexCount : ℕ → List ℕ → ℕ
+hexCount zero l = 0
+hexCount (suc n) [] = 0
+hexCount (suc n) (x ∷ l) = pick (ltb (hexOf x) 16) (suc (hexCount n l)) 0
+
+-- the number that n digits spell after the number r
+unfoldable pub hexValue : ℕ → ℕ → List ℕ → ℕ
+hexValue zero r l = r
+hexValue (suc n) r [] = r
+hexValue (suc n) r (x ∷ l) = hexValue n (r * 16 + hexOf x) l
+
+-- `\u` or `\U` with n digits, l being the text after the letter. Document 01: "good digits already consumed are lost, unless too few bytes remain:
+-- then none is consumed"
+unfoldable pub codePiece : ℕ → ℕ → ℕ → List ℕ → Piece
+codePiece n reason letter l =
+    pick (ltb (length l) n) (piece.Bad reason letter 2)
+    (pick (ltb (hexCount n l) n) (piece.Bad reason letter (hexCount n l + 2))
+    (pick (isScalar (hexValue n 0 l)) (bytesPiece (encodeOf (hexValue n 0 l)) (n + 2)) (piece.Bad reason letter (n + 2))))
+
+-- a backslash and one byte more; any other letter is reason 9
+unfoldable pub escapePiece : List ℕ → Piece
+escapePiece l =
+    pick (eqb (simpleOf (byte l 1)) 0)
+    (pick (eqb (byte l 1) 0x78) (hexPiece l)
+    (pick (eqb (byte l 1) 0x75) (codePiece 4 7 0x75 (drop 2 l))
+    (pick (eqb (byte l 1) 0x55) (codePiece 8 8 0x55 (drop 2 l))
+    (pick (within 48 51 (byte l 1)) (octPiece (byte l 1) l) (piece.Bad 9 (byte l 1) 2)))))
+    (piece.Bytes 1 (simpleOf (byte l 1)) 0 0 0 2)
+
+-- what stands at the front of the rest of a literal
+unfoldable pub pieceOf : List ℕ → Piece
+pieceOf [] = piece.Open
+pieceOf (c ∷ l) =
+    pick (eqb c 0x22) piece.Close
+    (pick (eqb c 0x0A) piece.Newline
+    (pick (eqb c 0x5C) (pick (eqb (length l) 0) piece.Cut (escapePiece (c ∷ l))) (piece.Bytes 1 c 0 0 0 1)))

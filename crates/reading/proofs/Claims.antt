@@ -1,0 +1,153 @@
+-- Demand 3 of the tokens of a text: each field by induction on the tokens, from what is known of one token. Assumes nothing.
+use mathlib.Core.Path.{_≡_, refl, ap, _∙_}
+use mathlib.Core.Bool.{true, _||_}
+use mathlib.Core.Logic.{inl, inr}
+use mathlib.Core.List.{List, [], _∷_, _++_, map}
+use Prim.Native.Nat.{ℕ, _+_, _-_, _≤_}
+use native.Mathlib.Nat.{pos-of-ne-zero}
+use native.Mathlib.Omega.{arith}
+use lib.Dec.{eqb}
+use lib.ListN.{length, drop, drop-of-length-le, take-append-drop, length-drop}
+use lib.Seq.{drop-drop}
+use borrow.Author.Tests.{eqb-true}
+use Rattle.base.specs.Bytes.{byte}
+use Rattle.base.specs.Classes.{isSpace}
+use Rattle.base.proofs.Tests.{or-case}
+use Rattle.token.specs.Kind.{kindNumber}
+use Rattle.token.specs.Place.{placeAt}
+use Rattle.token.specs.declared.layout.Record.{Record}
+use Rattle.token.specs.declared.place.Place.{Place}
+use Rattle.token.proofs.Places.{place-offset, place-line, place-column}
+use Rattle.lexeme.specs.Lexeme.{Note}
+use Rattle.lexeme.specs.Reports.{reportOf}
+use Rattle.lexeme.specs.declared.Mode.{Mode}
+use Rattle.lexer.specs.Lexer.{notesOf}
+use Rattle.lexer.specs.Token.{nextToken}
+use Rattle.lexer.specs.declared.next.Token.{Token}
+use Rattle.lexer.proofs.Lexed as lexed
+use Rattle.reading.specs.Tokens.{tokensFrom, tokens}
+use Rattle.reading.specs.Buffers.{recordOf, recordsOf, stringsOf, reportsOf, recordRows, reportRows}
+use Rattle.reading.specs.Claim as claim
+use Rattle.reading.specs.Claim.{bytesOf, pieces, Tiles, Blank, Gaps, OneEof, TruePlace, Each, TokenPlace, ReportPlace, DurationSum, Demand3}
+use Rattle.reading.proofs.Nexts.{Read, reads}
+use Rattle.reading.proofs.From.{by-tokens}
+
+blank : (b : ℕ) → isSpace b ≡ true → Blank b
+unfolding isSpace
+blank b e =
+    or-case (eqb b 32 || eqb b 9) (eqb b 13) e
+    (λ f. or-case (eqb b 32) (eqb b 9) f (λ g. inl (eqb-true _ _ g)) (λ g. inr (inl (eqb-true _ _ g)))) (λ g. inr (inr (eqb-true _ _ g)))
+
+-- the bytes up to an offset, and then the rest
+rejoin : (text : List ℕ) (a b : ℕ) → a ≤ b → bytesOf text a b ++ drop b text ≡ drop a text
+rejoin text a b h =
+    let e : a + (b - a) ≡ b = omega arith in
+    rw (drop-drop (b - a) a text, e) at (take-append-drop (b - a) (drop a text))
+
+-- the place of an offset is true
+true-place : (text : List ℕ) (i : ℕ) (p : Place) → p ≡ placeAt text i → i ≤ length text → TruePlace text (p .offset) (p .line) (p .column)
+true-place text i p e h =
+    let o : p .offset ≡ i = ap (λ (q : Place). q .offset) e ∙ place-offset text i h in
+    record {
+      inside = omega arith;
+      line = ap (λ (q : Place). q .line) e ∙ rw o (place-line text i);
+      column = ap (λ (q : Place). q .column) e ∙ rw o (place-column text i);
+    }
+
+-- something that holds of each element of two lists holds of each of both
+each-append : {A : Type 0} {P : A → Type 0} {xs ys : List A} → Each P xs → Each P ys → Each P (xs ++ ys)
+each-append claim.none ys = ys
+each-append (claim.more x xs) ys = claim.more x (each-append xs ys)
+
+-- what holds of the records of tokens from an offset on
+record Holds (text : List ℕ) (at : ℕ) (rs : List Record) : Type 0 where
+  tiles : Tiles text at rs
+  gives-back : pieces text at rs ≡ drop at text
+  gaps : Gaps text at rs
+  one-eof : OneEof text rs
+  places : Each (TokenPlace text) rs
+  durations : Each (DurationSum text) rs
+
+module _ (m : Mode) (limit : ℕ) (text : List ℕ) where
+  -- the facts of one record, whatever follows it
+  module _ (at : ℕ) (h : at ≤ length text) (p : ℕ) (t : Token) (r : Read m limit text at t) where
+    front : bytesOf text at (t .start .offset) ++ (bytesOf text (t .start .offset) (t .end .offset) ++ drop (t .end .offset) text) ≡ drop at text
+    front =
+        ap (λ (l : List ℕ). bytesOf text at (t .start .offset) ++ l) (rejoin text (t .start .offset) (t .end .offset) (r .ordered))
+        ∙ rejoin text at (t .start .offset) (r .after)
+
+    holds-eof : kindNumber (t .kind) ≡ 0 → Holds text at (recordOf p t ∷ [])
+    holds-eof e =
+        let o : length text ≤ t .end .offset = omega (arith, r .eof-end e) in
+        let d : drop (t .end .offset) text ≡ [] = drop-of-length-le text o in
+        record {
+          tiles = claim.more (r .after) (r .ordered) (r .inside) claim.none;
+          gives-back = rw d at front;
+          gaps = claim.more (λ k a b. blank (byte text k) (r .gap k a b)) claim.none;
+          one-eof = claim.last e (r .eof-start e) (r .eof-end e);
+          places = claim.more (true-place text (t .start .offset) (t .start) (r .start-true) (omega (arith, r .ordered, r .inside))) claim.none;
+          durations = claim.more (r .duration) claim.none;
+        }
+
+    holds-more : (rs : List Record) → (kindNumber (t .kind) ≡ 0 → ⊥) → Holds text (t .end .offset) rs → Holds text at (recordOf p t ∷ rs)
+    holds-more rs c w =
+        record {
+          tiles = claim.more (r .after) (r .ordered) (r .inside) (w .tiles);
+          gives-back =
+              ap (λ (l : List ℕ). bytesOf text at (t .start .offset) ++ (bytesOf text (t .start .offset) (t .end .offset) ++ l)) (w .gives-back)
+              ∙ front;
+          gaps = claim.more (λ k a b. blank (byte text k) (r .gap k a b)) (w .gaps);
+          one-eof = claim.more (pos-of-ne-zero c) (r .forward c) (w .one-eof);
+          places =
+              claim.more (true-place text (t .start .offset) (t .start) (r .start-true) (omega (arith, r .ordered, r .inside))) (w .places);
+          durations = claim.more (r .duration) (w .durations);
+        }
+
+    -- its reports
+    report-places : Each (ReportPlace text) (map (reportOf text (t .start .offset)) (notesOf m limit (drop (t .start .offset) text)))
+    unfolding reportOf
+    report-places = go (notesOf m limit (drop (t .start .offset) text)) (r .notes-in)
+      where
+        go : (ns : List Note) → lexed.NotesIn (length (drop (t .start .offset) text)) ns → Each (ReportPlace text) (map (reportOf text (t .start .offset)) ns)
+        go [] lexed.none = claim.none
+        go (n ∷ ns) (lexed.more i w) =
+            claim.more
+            (true-place text (t .start .offset + n .offset) (placeAt text (t .start .offset + n .offset)) refl
+            (omega (arith, r .ordered, r .inside, length-drop (t .start .offset) text)))
+            (go ns w)
+
+  holds-from : (at : ℕ) → at ≤ length text → (p : ℕ) → Holds text at (recordsOf p (tokensFrom m limit text at))
+  unfolding recordsOf
+  holds-from =
+      by-tokens m limit text (λ at ts. (p : ℕ) → Holds text at (recordsOf p ts))
+      (λ at h e p. holds-eof at h p (nextToken m limit text at) (reads m limit text at h) e)
+      (λ at ts h c w p. holds-more at h p (nextToken m limit text at) (reads m limit text at h) _ c (w _))
+
+  reports-from : (at : ℕ) → at ≤ length text → Each (ReportPlace text) (reportsOf m limit text (tokensFrom m limit text at))
+  unfolding reportsOf
+  reports-from =
+      by-tokens m limit text (λ at ts. Each (ReportPlace text) (reportsOf m limit text ts))
+      (λ at h e. each-append (report-places at h 0 (nextToken m limit text at) (reads m limit text at h)) claim.none)
+      (λ at ts h c w. each-append (report-places at h 0 (nextToken m limit text at) (reads m limit text at h)) w)
+
+  -- demand 3, over the definitions
+  pub demand-3 : Demand3 m limit text (recordRows (recordsOf 0 (tokens m limit text))) (stringsOf m text (tokens m limit text)) (reportRows (reportsOf m limit text (tokens m limit text)))
+  unfolding tokens
+  demand-3 =
+      let w = holds-from 0 (omega arith) 0 in
+      record {
+        records = recordsOf 0 (tokens m limit text);
+        reports = reportsOf m limit text (tokens m limit text);
+        held-records = refl;
+        held-reports = refl;
+        as-the-rust = refl;
+        strings = refl;
+        as-reported = refl;
+        tiles = w .tiles;
+        gives-back = w .gives-back;
+        gaps = w .gaps;
+        one-eof = w .one-eof;
+        places = w .places;
+        report-places = reports-from 0 (omega arith);
+        durations = w .durations;
+      }

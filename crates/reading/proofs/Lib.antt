@@ -1,0 +1,15 @@
+pub mod FromLexer
+pub mod Nexts
+pub mod From
+pub mod Claims
+pub mod Rows
+pub mod Fits
+pub mod Judges
+pub mod Places
+pub mod Turns
+pub mod Wholes
+pub mod Ones
+pub mod Chains
+pub mod Suffices
+pub mod Uses
+pub mod MiniatureHolds

@@ -1,0 +1,35 @@
+-- `judge` makes the two checks in their order. Assumes nothing.
+use mathlib.Core.Path.{sym, _∙_}
+use borrow.Author.Needs.{needs}
+use Rattle.reading.proofs.Judges.{long-judged, fit-judged, ill-judged}
+use Rattle.reading.proofs.judge.judge.Statement.{statement}
+use Rattle.reading.proofs.judge.judge.Tie as tie
+
+returns : tie.Need-returns
+returns c = long-judged _ (c .if1 .taken)
+
+check-requires : tie.Need-check-requires
+check-requires c κs = search needs
+
+enum-told : tie.Need-enum-told
+enum-told c = search needs
+
+enum-known-at : tie.Need-enum-known-at
+enum-known-at c = search needs
+
+returns-2 : tie.Need-returns-2
+returns-2 c = fit-judged _ (c .before .before .before .if1 .left) (sym (c .before .before .check .ensures .same) ∙ c .enum-told .given .1)
+
+returns-3 : tie.Need-returns-3
+returns-3 c = ill-judged _ (c .before .before .before .before .if1 .left) (sym (c .before .before .before .check .ensures .same) ∙ c .before .at .given .1)
+
+pub judge-spec : {M : Type 1} → statement M
+judge-spec =
+    tie.close
+    (tie.spec
+    returns
+    check-requires
+    enum-told
+    enum-known-at
+    returns-2
+    returns-3)

@@ -1,0 +1,52 @@
+-- `put_value` writes the string of a token that counts some bytes; any other has none. Assumes nothing.
+use mathlib.Core.Path.{_≡_, sym, _∙_}
+use native.Mathlib.Omega.{arith}
+use lib.ListN.{length, drop}
+use Rattle.base.proofs.Reaches.{rest-is}
+use Rattle.lexer.specs.Lexer.{stringOf}
+use Rattle.reading.proofs.Turns.{empty}
+use borrow.Author.Needs.{needs}
+use Rattle.reading.proofs.put.put_value.Statement.{statement}
+use Rattle.reading.proofs.put.put_value.Tie as tie
+
+string-size-requires : tie.Need-string-size-requires
+string-size-requires c κs = search needs
+
+returns : tie.Need-returns
+returns c =
+    let a = c .before .before .before .before in
+    rw (empty (stringOf (a .args .mode) (drop (a .args .t .start .offset) (a .args .text .now))) (a .pre .counted ∙ sym (c .before .string-size .ensures) ∙ c .if1 .taken))
+
+sub-put-string : tie.Need-sub-put-string
+sub-put-string c = search needs
+
+part-put-string-start : tie.Need-part-put-string-start
+part-put-string-start c = search needs
+
+part-put-string-end : tie.Need-part-put-string-end
+part-put-string-end c = search needs
+
+put-string-requires : tie.Need-put-string-requires
+put-string-requires c κs =
+    let b = c .before .before .before in
+    let a = b .before .before .before in
+    rw rest-is (omega (arith, a .pre .counted, b .string-size .ensures, c .before .before .if1 .left), a .pre .fits)
+
+same-length : tie.Need-same-length
+same-length c = search needs
+
+returns-2 : tie.Need-returns-2
+returns-2 c = rw rest-is at (c .before .before .put-string .ensures)
+
+pub put-value-spec : {M : Type 1} → statement M
+put-value-spec =
+    tie.close
+    (tie.spec
+    string-size-requires
+    returns
+    sub-put-string
+    part-put-string-start
+    part-put-string-end
+    put-string-requires
+    same-length
+    returns-2)

@@ -1,0 +1,6 @@
+// The public calls on a text: the whole reading, one token from a place, and the place of an offset.
+mod judge;
+pub mod one;
+pub mod place;
+mod put;
+pub mod text;

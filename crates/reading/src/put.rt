@@ -1,0 +1,84 @@
+// What one token lays into the three buffers.
+ghost use mathlib.Core.Path.{_≡_};
+ghost use lib.ListN.{length, drop};
+ghost use lib.Seq.{sets};
+ghost use Rattle.base.specs.Choice.{pick};
+ghost use Rattle.token.specs.Kind.{kindNumber};
+ghost use Rattle.token.specs.Layout.{recordNumbers};
+ghost use Rattle.lexeme.specs.Reports.{notesNumbers};
+ghost use Rattle.lexer.specs.Lexer.{stringOf, notesOf};
+ghost use Rattle.lexer.specs.Token.{isString};
+ghost use Rattle.reading.specs.Buffers.{recordOf};
+ghost use Rattle.reading.specs.Passes.{RecordRoom, StringRoom, NotesRoom};
+use lexeme::Mode;
+use lexer::next::Token;
+use lexer::next::string_size;
+use lexer::put::put_reports;
+use lexer::put::put_string;
+use token::layout::Record;
+
+// The number of a token's kind.
+pub fn kind_number(t: Token) -> usize
+    ensures { λ r. ⌜ r ≡ kindNumber (t .kind) ⌝ }
+{
+    let kind = t.kind;
+    kind.number()
+}
+
+// The place of a token's value: a String's in the string buffer, where it starts at `at`, any other's in the text.
+fn value_place(t: Token, at: usize) -> usize
+    ensures { λ r. ⌜ r ≡ pick (isString (t .kind)) at (t .value) ⌝ }
+{
+    if kind_number(t) == 5 {
+        return at;
+    }
+    t.value
+}
+
+// Stores the record of a token whose string starts at `at`.
+pub fn put_record(t: Token, at: usize, out: &mut [i64], i: usize)
+    requires { ⌜ RecordRoom at t (length (now out)) i ⌝ }
+    ensures { λ r. ⌜ now (out .exit) ≡ sets (now (out .entry)) i (recordNumbers (recordOf at t)) ⌝ }
+{
+    let nanos = t.nanos;
+    let record = Record {
+        kind: kind_number(t),
+        reason: t.reason,
+        detail: t.detail,
+        start: t.start.offset,
+        end: t.end.offset,
+        line: t.start.line,
+        column: t.start.column,
+        value: value_place(t, at),
+        size: t.size,
+        precision: t.precision,
+        digits: t.digits,
+        nanos,
+    };
+    let numbers = record.numbers();
+    base::store(out, i, &numbers);
+}
+
+// Writes the string of a token of the text.
+pub fn put_value(text: &[u8], t: Token, mode: Mode, out: &mut [u8], at: usize)
+    requires { ⌜ StringRoom mode (now text) t (length (now out)) at ⌝ }
+    ensures { λ r. ⌜ now (out .exit) ≡ sets (now (out .entry)) at (stringOf mode (drop (t .start .offset) (now (text .entry)))) ⌝ }
+{
+    let kind = t.kind;
+    if string_size(kind, t.size) == 0 {
+        return;
+    }
+    let start = t.start.offset;
+    put_string(&text[start..], mode, out, at);
+}
+
+// Writes the reports of a token of the text.
+pub fn put_notes(text: &[u8], t: Token, mode: Mode, limit: usize, out: &mut [i64], at: usize)
+    requires { ⌜ NotesRoom mode limit (now text) t (length (now out)) at ⌝ }
+    ensures { λ r. ⌜ now (out .exit) ≡ sets (now (out .entry)) at (notesNumbers (now (text .entry)) (t .start .offset) (notesOf mode limit (drop (t .start .offset) (now (text .entry))))) ⌝ }
+{
+    if t.reports == 0 {
+        return;
+    }
+    put_reports(text, t.start, mode, limit, out, at);
+}

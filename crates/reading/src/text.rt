@@ -1,0 +1,161 @@
+// The whole reading of a text: it measures completely, then writes.
+ghost use mathlib.Core.Path.{_≡_};
+ghost use Prim.Native.Nat.{_≤_};
+ghost use lib.ListN.{length};
+ghost use Rattle.limits.specs.Limits.{maxMessageSize};
+ghost use Rattle.reading.specs.Answers.{readTextNumber};
+ghost use Rattle.reading.specs.Calls.{ReadsText};
+ghost use Rattle.reading.specs.Passes.{Measured, Room, Written};
+use crate::judge::Judged;
+use crate::judge::judge;
+use crate::put::kind_number;
+use crate::put::put_notes;
+use crate::put::put_record;
+use crate::put::put_value;
+use lexeme::Mode;
+use lexer::next::next_lexeme;
+use lexer::next::next_token;
+use lexer::next::string_size;
+use token::layout::RECORD_WIDTH;
+use token::layout::REPORT_WIDTH;
+use token::place::Place;
+
+// What the whole reading answers.
+pub enum ReadText {
+    // How many tokens, string bytes and reports were written.
+    Counts {
+        tokens: usize,
+        strings: usize,
+        reports: usize,
+    },
+    // The text exceeds 67,108,864 bytes.
+    TooLong,
+    // The text isn't UTF-8; the offset of its first ill-formed sequence.
+    NotUtf8(usize),
+    TokensShort,
+    StringsShort,
+    ReportsShort,
+}
+
+impl ReadText {
+    // Document 01's number of the answer, 0 where the call is accepted.
+    pub fn number(self) -> u8
+        ensures { λ r. ⌜ r ≡ readTextNumber self ⌝ }
+    {
+        match self {
+            ReadText::Counts {
+                tokens: _,
+                strings: _,
+                reports: _,
+            } => 0,
+            ReadText::TooLong => 1,
+            ReadText::NotUtf8(_) => 2,
+            ReadText::TokensShort => 4,
+            ReadText::StringsShort => 5,
+            ReadText::ReportsShort => 6,
+        }
+    }
+}
+
+// How many tokens, string bytes and reports a text has.
+pub struct Counts {
+    pub tokens: usize,
+    pub strings: usize,
+    pub reports: usize,
+}
+
+// The first pass: it counts, and needs no places.
+fn measure(text: &[u8], mode: Mode, limit: usize) -> Counts
+    requires { ⌜ length (now text) ≤ maxMessageSize ⌝ }
+    ensures { λ r. ⌜ Measured mode limit (now (text .entry)) r ⌝ }
+{
+    let mut at = 0;
+    let mut tokens = 0;
+    let mut strings = 0;
+    let mut reports = 0;
+    loop {
+        let found = next_lexeme(text, at, mode, limit);
+        let x = found.lexeme;
+        let kind = x.kind;
+        tokens += 1;
+        if kind.number() == 0 {
+            return Counts {
+                tokens,
+                strings,
+                reports,
+            };
+        }
+        strings += string_size(kind, x.size);
+        reports += x.reports;
+        at = found.start + x.len;
+    }
+}
+
+// The second pass: each token's record, string and reports, one after the other.
+fn write(
+    text: &[u8],
+    mode: Mode,
+    limit: usize,
+    tokens: &mut [i64],
+    strings: &mut [u8],
+    reports: &mut [i64],
+)
+    requires { ⌜ Room mode limit (now text) (length (now tokens)) (length (now strings)) (length (now reports)) ⌝ }
+    ensures { λ r. ⌜ Written mode limit (now (text .entry)) (now (tokens .entry)) (now (strings .entry)) (now (reports .entry)) (now (tokens .exit)) (now (strings .exit)) (now (reports .exit)) ⌝ }
+{
+    let mut place = Place::first();
+    let mut i = 0;
+    let mut m = 0;
+    let mut k = 0;
+    loop {
+        let t = next_token(text, place, mode, limit);
+        let kind = t.kind;
+        put_record(t, m, tokens, i);
+        if kind_number(t) == 0 {
+            return;
+        }
+        put_value(text, t, mode, strings, m);
+        put_notes(text, t, mode, limit, reports, k);
+        i += RECORD_WIDTH;
+        m += string_size(kind, t.size);
+        k += t.reports * REPORT_WIDTH;
+        place = t.end;
+    }
+}
+
+// Reads a whole text: the records of its tokens, its strings and its reports, each from the buffer's start.
+pub fn read_text(
+    text: &[u8],
+    mode: Mode,
+    limit: usize,
+    tokens: &mut [i64],
+    strings: &mut [u8],
+    reports: &mut [i64],
+) -> ReadText
+    ensures { λ r. ⌜ ReadsText mode limit (now (text .entry)) (now (tokens .entry)) (now (strings .entry)) (now (reports .entry)) r (now (tokens .exit)) (now (strings .exit)) (now (reports .exit)) ⌝ }
+{
+    match judge(text) {
+        Judged::TooLong => return ReadText::TooLong,
+        Judged::NotUtf8(at) => return ReadText::NotUtf8(at),
+        Judged::Fit => {}
+    }
+    let counts = measure(text, mode, limit);
+    let n = counts.tokens;
+    let m = counts.strings;
+    let k = counts.reports;
+    if tokens.len() < n * RECORD_WIDTH {
+        return ReadText::TokensShort;
+    }
+    if strings.len() < m {
+        return ReadText::StringsShort;
+    }
+    if reports.len() < k * REPORT_WIDTH {
+        return ReadText::ReportsShort;
+    }
+    write(text, mode, limit, tokens, strings, reports);
+    ReadText::Counts {
+        tokens: n,
+        strings: m,
+        reports: k,
+    }
+}

@@ -1,1 +1,2 @@
 mod Passed
+mod Given

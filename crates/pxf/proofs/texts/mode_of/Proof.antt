@@ -1,0 +1,17 @@
+-- `mode_of` chooses as the definition does. Assumes nothing.
+use borrow.Author.Tests.{ne-eqb}
+use Rattle.pxf.proofs.texts.mode_of.Statement.{statement}
+use Rattle.pxf.proofs.texts.mode_of.Tie as tie
+
+returns : tie.Need-returns
+returns c = rw (c .if1 .taken)
+
+returns-2 : tie.Need-returns-2
+returns-2 c = rw (ne-eqb _ _ (c .if1 .left))
+
+pub mode-of-spec : {M : Type 1} → statement M
+mode-of-spec =
+    tie.close
+    (tie.spec
+    returns
+    returns-2)

@@ -66,3 +66,8 @@ pub record Stored {A : Type 0} (l : List A) (i : ℕ) (vs l′ : List A) : Type 
 -- two runs of stores, the second from the end of the first
 pub stored-then : {A : Type 0} {l l₁ l₂ : List A} {i j : ℕ} {vs ws : List A} → Stored l i vs l₁ → j ≡ i + length vs → Stored l₁ j ws l₂ → Stored l i (vs ++ ws) l₂
 stored-then {l = l} {i = i} {vs = vs} {ws = ws} p e q = record { is = q .is ∙ rw (e, p .is) (sym (sets-append l i vs ws)) }
+
+-- a list of no elements is empty
+pub empty : {A : Type 0} (l : List A) → length l ≡ 0 → l ≡ []
+empty [] e = refl
+empty (a ∷ l) e = absurd (omega arith)

@@ -136,6 +136,15 @@ module _ (m : Mode) (limit : ℕ) (text : List ℕ) (p : Place) (w : Walkable te
   unfolding nextToken
   token-is q r k a b c = rw (← e, a, b, c)
 
+-- at the end of a text nothing stands that has a string or reports
+pub eof-string : (m : Mode) → stringOf m [] ≡ []
+unfolding stringOf
+eof-string m = refl
+
+pub eof-notes : (m : Mode) (limit : ℕ) → notesOf m limit [] ≡ []
+unfolding notesOf
+eof-notes m limit = refl
+
 -- ---- well-formed texts
 
 -- on a text that is well-formed from `at` on, the token starts and ends between characters, and its string is UTF-8

@@ -1,6 +1,6 @@
 -- The chain of calls of `read_token`: a call gives the token after its place, so that calls from the first place on give the tokens of the
--- text, by induction on the calls; and from a place between two characters, no call is refused, by induction on the tokens. The law that a token
--- ends between two characters is a hypothesis, `next-utf8`, of the second; else nothing is assumed.
+-- text, by induction on the calls; and from a place between two characters, no call is refused, by induction on the tokens, each of
+-- which ends between two characters (`next-utf8`). Assumes nothing.
 use mathlib.Core.Path.{_≡_, refl, sym, ap, _∙_, subst}
 use mathlib.Core.Bool.{Bool, true, false}
 use mathlib.Core.List.{List, [], _∷_, _++_, append-nil}
@@ -38,8 +38,7 @@ use Rattle.reading.specs.Answers.{afterCheck, isPlace, readTokenAnswer}
 use Rattle.reading.specs.Chain.{Call, movedBy, Calls, last, more, ChainGivesWhole, ChainRuns}
 use Rattle.reading.specs.declared.one.ReadToken.{ReadToken}
 use Rattle.reading.specs.declared.one.ReadToken.the-variants.{One, TooLong, NotUtf8, NoPlace, TokensShort, StringsShort, ReportsShort}
-use Rattle.lexer.proofs.Founds as founds
-use Rattle.lexer.proofs.Founds.{NextUtf8}
+use Rattle.lexer.proofs.Founds.{next-utf8}
 use Rattle.reading.proofs.Nexts.{Read, reads, end-offset}
 use Rattle.reading.proofs.From.{from-eof, from-more, by-tokens}
 use Rattle.reading.proofs.Rows.{same-record}
@@ -174,11 +173,11 @@ module _ (m : Mode) (limit : ℕ) (text : List ℕ) where
 
   -- ---- no call is refused
 
-  module _ (next-utf8 : (at : ℕ) → Boundary text at → NextUtf8 m text (foundAt m limit text at)) (h : length text ≤ maxMessageSize) (g : checkOf text ≡ WellFormed) where
+  module _ (h : length text ≤ maxMessageSize) (g : checkOf text ≡ WellFormed) where
     -- a token that is read from between two characters ends between two
     end-between : (at : ℕ) → at ≤ length text → Boundary text at → Boundary text (nextToken m limit text at .end .offset)
     unfolding nextToken
-    end-between at l b = rw (end-offset m limit text at l (foundAt m limit text at) refl) (next-utf8 at b .end)
+    end-between at l b = rw (end-offset m limit text at l (foundAt m limit text at) refl) (next-utf8 m limit text at b .end)
 
     valid : validTo text ≡ length text
     valid = sym (whole-end text WellFormed (checked text WellFormed (sym g)) refl)
@@ -255,4 +254,4 @@ module _ (m : Mode) (limit : ℕ) (text : List ℕ) where
 
   -- no call from the first place on is refused
   pub chain-runs : ChainRuns m limit text
-  chain-runs h g T S R rt rs rr = from-start (λ at b. founds.next-utf8 m limit text at b) h g T S R rt rs rr
+  chain-runs h g T S R rt rs rr = from-start h g T S R rt rs rr

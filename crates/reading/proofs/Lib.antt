@@ -1,4 +1,3 @@
-pub mod FromLexer
 pub mod Nexts
 pub mod From
 pub mod Claims
@@ -12,4 +11,5 @@ pub mod Ones
 pub mod Chains
 pub mod Suffices
 pub mod Uses
+pub mod Laid
 pub mod MiniatureHolds

@@ -1,6 +1,6 @@
 -- What is known of the token after an offset, with its places: the lexer's laws of the token found, Eof or not, at the offsets of its places.
 -- Assumes nothing.
-use mathlib.Core.Path.{_≡_, refl, sym, ap, _∙_}
+use mathlib.Core.Path.{_≡_, refl, ap, _∙_}
 use mathlib.Core.Bool.{true}
 use mathlib.Core.Logic.{⊎-elim}
 use mathlib.Core.List.{List, []}
@@ -16,8 +16,7 @@ use Rattle.go_duration.specs.Written.{SumOfParts}
 use Rattle.token.specs.Kind.{kindNumber}
 use Rattle.token.specs.Place.{placeAt}
 use Rattle.token.specs.declared.kind.TokenKind.the-variants as K
-use Rattle.token.specs.declared.place.Place.{Place}
-use Rattle.token.proofs.Places.{place-offset}
+use Rattle.token.proofs.Places.{place-offset, offset-put}
 use Rattle.lexeme.specs.Lexeme.{bare}
 use Rattle.lexeme.specs.declared.Lexeme.{Lexeme}
 use Rattle.lexeme.specs.declared.Mode.{Mode}
@@ -26,8 +25,7 @@ use Rattle.lexer.specs.Token.{foundAt, endOf, tokenOf, nextToken, stringSize}
 use Rattle.lexer.specs.declared.next.Found.{Found}
 use Rattle.lexer.specs.declared.next.Token.{Token}
 use Rattle.lexer.proofs.Lexed.{Lexed, NotesIn, none}
-use Rattle.lexer.proofs.Founds.{next-of, bounds-of}
-use Rattle.reading.proofs.FromLexer.{eof-string, eof-notes}
+use Rattle.lexer.proofs.Founds.{next-of, bounds-of, eof-string, eof-notes}
 use Rattle.token.proofs.KindNumbers.{number-kind}
 
 -- what is known of the token at the offsets a to e, its bytes and its reports
@@ -98,10 +96,6 @@ pub record Read (m : Mode) (limit : ℕ) (text : List ℕ) (at : ℕ) (t : Token
   pub notes : length (notesOf m limit (drop (t .start .offset) text)) ≡ t .reports
   pub notes-in : NotesIn (length (drop (t .start .offset) text)) (notesOf m limit (drop (t .start .offset) text))
   pub duration : kindNumber (t .kind) ≡ 12 → SumOfParts (take (t .end .offset - t .start .offset) (drop (t .start .offset) text)) (t .nanos)
-
--- a place with its own offset put in
-offset-put : (p : Place) (n : ℕ) → p .offset ≡ n → _≡_ {A = Place} (record { offset = n; line = p .line; column = p .column }) p
-offset-put p n e = ap (λ (o : ℕ). record { offset = o; line = p .line; column = p .column }) (sym e)
 
 module _ (m : Mode) (limit : ℕ) (text : List ℕ) (at : ℕ) (h : at ≤ length text) where
   -- the offsets of the places of the token found

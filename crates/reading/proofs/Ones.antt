@@ -29,9 +29,10 @@ use Rattle.reading.specs.Calls.{ReadsToken}
 use Rattle.reading.specs.Passes.{RecordRoom, StringRoom, NotesRoom}
 use Rattle.reading.specs.declared.one.ReadToken.{ReadToken}
 use Rattle.reading.specs.declared.one.ReadToken.the-variants.{One, TooLong, NotUtf8, NoPlace, TokensShort, StringsShort, ReportsShort}
+use Rattle.token.proofs.Places.{to-place}
 use Rattle.reading.proofs.Nexts.{Read}
 use Rattle.reading.proofs.Places.{place-is}
-use Rattle.reading.proofs.Turns.{read-of, no-string, no-notes, record-fits, to-place}
+use Rattle.reading.proofs.Turns.{read-of, no-string, no-notes, record-fits}
 
 module _ (m : Mode) (limit : ℕ) (text : List ℕ) (p : Place) (T : List ℤ) (S : List ℕ) (R : List ℤ) where
   -- a refusal leaves the buffers as they are

@@ -1,26 +1,20 @@
 -- Whether a place is one of the text, and the answers of the place of an offset, each from the tests that led to it. Assumes nothing.
-use mathlib.Core.Path.{_≡_, refl, sym, ap, _∙_, subst}
+use mathlib.Core.Path.{_≡_, sym, ap, _∙_, subst}
 use mathlib.Core.Bool.{true, false, not, _&&_}
 use mathlib.Core.List.{List}
 use Prim.Native.Nat.{ℕ, _≤_, _<_}
-use native.Mathlib.Omega.{arith}
 use lib.Dec.{leb, eqb}
 use lib.ListN.{length}
 use borrow.Author.Tests.{lt-ltb, le-ltb, le-leb, lt-leb, leb-true, eqb-true, eq-eqb, ne-eqb, not-true}
 use Rattle.base.proofs.Tests.{and-left, and-right}
 use Rattle.limits.specs.Limits.{maxMessageSize}
-use Rattle.token.specs.Place.{firstPlace, placeAt, Walkable}
+use Rattle.token.specs.Place.{placeAt}
 use Rattle.token.specs.declared.place.Place.{Place}
 use Rattle.token.proofs.Places.{place-offset}
 use Rattle.utf8.specs.Check.{checkOf, insideChar}
 use Rattle.utf8.specs.declared.check.Verdict.the-variants.{WellFormed, IllFormed}
 use Rattle.reading.specs.Answers.{isPlace, placeOfAnswer}
 use Rattle.reading.specs.declared.place.PlaceOf.the-variants.{At, TooLong, NotUtf8, NoPlace}
-
--- from the first place to any offset
-pub first-walkable : (text : List ℕ) (p : Place) → p ≡ firstPlace → length text ≤ maxMessageSize → (i : ℕ) → i ≤ length text → Walkable text p i
-unfolding placeAt
-first-walkable text p e h i l = rw e (record { true-place = refl; forward = omega arith; inside = l; short = h })
 
 abbrev place : ℕ → ℕ → ℕ → Place
 place o l c = record { offset = o; line = l; column = c }

@@ -10,7 +10,7 @@ use lib.ListN.{length, drop}
 use lib.Seq.{sets, length-sets}
 use Rattle.base.specs.Bytes.{AreBytes}
 use Rattle.base.specs.Choice.{pick}
-use Rattle.base.proofs.Stores.{sets-append}
+use Rattle.base.proofs.Stores.{sets-append, empty}
 use Rattle.base.proofs.Tests.{pick-case}
 use Rattle.limits.specs.Limits.{maxMessageSize}
 use Rattle.token.specs.Kind.{kindNumber}
@@ -18,7 +18,7 @@ use Rattle.token.specs.Layout.{recordWidth, reportWidth, recordNumbers, Fits63,
 use Rattle.token.specs.Place.{firstPlace, placeAt, Walkable}
 use Rattle.token.specs.declared.place.Place.{Place}
 use Rattle.token.proofs.KindNumbers.{number-le}
-use Rattle.token.proofs.Places.{Moved, place-moved}
+use Rattle.token.proofs.Places.{Moved, place-moved, first-walkable, to-place}
 use Rattle.lexeme.specs.Reports.{reportOf, notesNumbers}
 use Rattle.lexeme.specs.declared.Mode.{Mode}
 use Rattle.lexeme.proofs.Notes.{notes-length}
@@ -31,13 +31,8 @@ use Rattle.reading.specs.Buffers.{recordOf, recordsOf, stringsOf, report
 use Rattle.reading.specs.Passes.{Measured, Room, Written, RecordRoom, StringRoom, NotesRoom}
 use Rattle.reading.proofs.Nexts.{Read, reads, end-offset}
 use Rattle.reading.proofs.From.{from-eof, from-more, from-head}
-use Rattle.reading.proofs.Places.{first-walkable}
 use Rattle.reading.proofs.Rows.{report-rows-append, notes-rows}
 use Rattle.reading.proofs.Fits.{string-size-le, strings-more, reports-more}
-
-pub empty : {A : Type 0} (l : List A) → length l ≡ 0 → l ≡ []
-empty [] e = refl
-empty (a ∷ l) e = absurd (omega arith)
 
 -- ---- a token that a call gave
 
@@ -224,10 +219,6 @@ module _ (m : Mode) (limit : ℕ) (text : List ℕ) (t : Token) (ts : List Token
       let a = t .start .offset in
       report-rows-append (map (reportOf text a) (notesOf m limit (drop a text))) (reportsOf m limit text ts)
       ∙ ap (λ (l : List ℤ). l ++ reportRows (reportsOf m limit text ts)) (notes-rows text a (notesOf m limit (drop a text)))
-
--- a place of a text with the token's end
-pub to-place : {text : List ℕ} (q : Place) → length text ≤ maxMessageSize → q ≡ placeAt text (q .offset) → q .offset ≤ length text → Walkable text q (q .offset)
-to-place q h e l = record { true-place = e; forward = omega arith; inside = l; short = h }
 
 module _ {m : Mode} {limit : ℕ} {text : List ℕ} {T : List ℤ} {S : List ℕ} {R T′ : List ℤ} {S′ : List ℕ} {R′ : List ℤ} {p : Place} {i s k : ℕ}
     (w : Writing m limit text T S R T′ S′ R′ p i s k) {t : Token} (e : t ≡ nextToken m limit text (p .offset)) where

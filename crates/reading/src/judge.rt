@@ -14,6 +14,7 @@ pub enum Judged {
     NotUtf8(usize),
 }
 
+// Checks 1 and 2, in this order.
 pub fn judge(text: &[u8]) -> Judged
     ensures { λ r. ⌜ r ≡ judgeOf (now (text .entry)) ⌝ }
 {

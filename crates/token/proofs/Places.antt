@@ -11,7 +11,7 @@ use lib.Seq.{take-suc, take-add, length-take-le}
 use lib.Dec.{eqb}
 use Rattle.base.specs.Choice.{pick}
 use Rattle.limits.specs.Limits.{maxMessageSize}
-use Rattle.token.specs.Place.{firstPlace, stepPlace, placeAfter, placeAt, newlines, sinceNewline, Bounded, Steppable}
+use Rattle.token.specs.Place.{firstPlace, stepPlace, placeAfter, placeAt, newlines, sinceNewline, Bounded, Steppable, Walkable}
 use Rattle.token.specs.declared.place.Place.{Place}
 
 -- the place after two lists is the place after the second from the place after the first
@@ -99,3 +99,16 @@ module _ (s : List ℕ) (i : ℕ) (q : Place) (e : q ≡ placeAt s i) (h : i < l
   place-steppable k =
       let m : Moved firstPlace (placeAt s i) i = place-moved s i (omega arith) in
       rw e (record { offset = omega arith; bounded = record { line = omega arith; column = omega arith } })
+
+-- from the first place to any offset of a text that is read
+pub first-walkable : (text : List ℕ) (p : Place) → p ≡ firstPlace → length text ≤ maxMessageSize → (i : ℕ) → i ≤ length text → Walkable text p i
+unfolding placeAt
+first-walkable text p e h i l = rw e (record { true-place = refl; forward = omega arith; inside = l; short = h })
+
+-- a place of a text that is read
+pub to-place : {text : List ℕ} (q : Place) → length text ≤ maxMessageSize → q ≡ placeAt text (q .offset) → q .offset ≤ length text → Walkable text q (q .offset)
+to-place q h e l = record { true-place = e; forward = omega arith; inside = l; short = h }
+
+-- a place with its own offset put in
+pub offset-put : (p : Place) (n : ℕ) → p .offset ≡ n → _≡_ {A = Place} (record { offset = n; line = p .line; column = p .column }) p
+offset-put p n e = ap (λ (o : ℕ). record { offset = o; line = p .line; column = p .column }) (sym e)

@@ -1,7 +1,8 @@
 -- `is_place` walks to the offset and compares. Assumes nothing.
 use mathlib.Core.Path.{sym, _∙_}
 use borrow.Author.Needs.{needs}
-use Rattle.reading.proofs.Places.{first-walkable, far, in-char, other-line, same-line}
+use Rattle.token.proofs.Places.{first-walkable}
+use Rattle.reading.proofs.Places.{far, in-char, other-line, same-line}
 use Rattle.reading.proofs.one.is_place.Statement.{statement}
 use Rattle.reading.proofs.one.is_place.Tie as tie
 

@@ -2,7 +2,8 @@
 use mathlib.Core.Path.{sym, _∙_}
 use borrow.Author.Needs.{needs}
 use Rattle.reading.proofs.Judges.{judged}
-use Rattle.reading.proofs.Places.{first-walkable, spot-long, spot-not-utf8, spot-far, spot-in-char, spot-at}
+use Rattle.token.proofs.Places.{first-walkable}
+use Rattle.reading.proofs.Places.{spot-long, spot-not-utf8, spot-far, spot-in-char, spot-at}
 use Rattle.reading.proofs.place.place_of.Statement.{statement}
 use Rattle.reading.proofs.place.place_of.Tie as tie
 

@@ -4,7 +4,7 @@ use native.Mathlib.Omega.{arith}
 use lib.ListN.{drop}
 use Rattle.lexeme.specs.Reports.{notesNumbers}
 use Rattle.lexer.specs.Lexer.{notesOf}
-use Rattle.reading.proofs.Turns.{empty}
+use Rattle.base.proofs.Stores.{empty}
 use borrow.Author.Needs.{needs}
 use Rattle.reading.proofs.put.put_notes.Statement.{statement}
 use Rattle.reading.proofs.put.put_notes.Tie as tie

@@ -4,7 +4,7 @@ use native.Mathlib.Omega.{arith}
 use lib.ListN.{length, drop}
 use Rattle.base.proofs.Reaches.{rest-is}
 use Rattle.lexer.specs.Lexer.{stringOf}
-use Rattle.reading.proofs.Turns.{empty}
+use Rattle.base.proofs.Stores.{empty}
 use borrow.Author.Needs.{needs}
 use Rattle.reading.proofs.put.put_value.Statement.{statement}
 use Rattle.reading.proofs.put.put_value.Tie as tie

@@ -1,5 +1,6 @@
 pub mod Tests
 pub mod Reaches
+pub mod Blocks
 pub mod Fronts
 pub mod Walks
 pub mod Stores

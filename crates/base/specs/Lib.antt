@@ -2,4 +2,5 @@ pub mod Choice
 pub mod Bytes
 pub mod Classes
 pub mod Runs
+pub mod Blocks
 pub mod Buffers

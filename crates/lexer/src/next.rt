@@ -7,9 +7,10 @@ ghost use Rattle.base.specs.Choice.{pick};
 ghost use Rattle.token.specs.Place.{Walkable};
 ghost use Rattle.lexer.specs.Token.{startAt, foundAt, nextToken, stringSize};
 use crate::lex::lex_one;
-use base::class::is_space;
 use lexeme::Lexeme;
 use lexeme::Mode;
+use scan::run::Run;
+use scan::run::reach_run;
 use token::kind::TokenKind;
 use token::place::Place;
 use token::place::walk;
@@ -40,15 +41,7 @@ pub struct Token {
 pub fn skip_spaces(text: &[u8], at: usize) -> usize
     ensures { λ r. ⌜ r ≡ startAt (now (text .entry)) at ⌝ }
 {
-    let mut i = at;
-    while i < text.len() {
-        if is_space(text[i]) {
-            i += 1;
-        } else {
-            return i;
-        }
-    }
-    i
+    reach_run(Run::Blank, text, at)
 }
 
 // The token after an offset, relative to its start.

@@ -1,4 +1,5 @@
 pub mod Runs
+mod Surely
 pub mod Stops
 pub mod Goes
 pub mod Scanned

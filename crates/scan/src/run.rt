@@ -1,7 +1,10 @@
 // Runs of bytes.
 ghost use mathlib.Core.Path.{_≡_};
+ghost use Prim.Native.Nat.{_≤_};
+ghost use lib.ListN.{length};
+ghost use Rattle.base.specs.Blocks.{allPass, Ahead};
 ghost use Rattle.base.specs.Runs.{reach, past};
-ghost use Rattle.scan.specs.Run.{endsTimestamp, inRun, unitPiece};
+ghost use Rattle.scan.specs.Run.{endsTimestamp, inRun, surelyIn, unitPiece};
 use base::class::is_digit;
 use base::class::is_ident_part;
 use base::class::is_lower_alpha;
@@ -50,7 +53,53 @@ fn in_run(k: Run, a: u8, b: u8) -> bool
     }
 }
 
-// The end of the run that starts at `at`.
+// Whether the byte belongs to the run, whatever byte comes after it. Timestamps are short, and not tested so.
+fn surely_in(k: Run, a: u8) -> bool
+    ensures { λ r. ⌜ r ≡ surelyIn k a ⌝ }
+{
+    match k {
+        Run::Blank => is_space(a),
+        Run::Line => a != b'\n',
+        Run::Body => a != b'*',
+        Run::Name => is_ident_part(a),
+        Run::Digits => is_digit(a),
+        Run::Stamp => false,
+    }
+}
+
+// How many bytes a block has.
+const BLOCK: usize = 16;
+
+// Whether all bytes surely belong to the run. It looks at every byte, so that several can be tested by one instruction.
+fn all_in(k: Run, s: &[u8]) -> bool
+    ensures { λ r. ⌜ r ≡ allPass (surelyIn k) (now (s .entry)) ⌝ }
+{
+    let mut all = true;
+    let mut i = 0;
+    while i < s.len() {
+        all = all & surely_in(k, s[i]);
+        i += 1;
+    }
+    all
+}
+
+// The end of the blocks from `at` on that belong to the run.
+fn past_blocks(k: Run, s: &[u8], at: usize) -> usize
+    requires { ⌜ at ≤ length (now s) ⌝ }
+    ensures { λ r. ⌜ Ahead (inRun k) (now (s .entry)) at r ⌝ }
+{
+    let mut i = at;
+    while BLOCK <= s.len() - i {
+        let end = i + BLOCK;
+        if !all_in(k, &s[i..end]) {
+            return i;
+        }
+        i = end;
+    }
+    i
+}
+
+// The end of the run that starts at `at`. Blocks are tried at every sixteenth byte, so that a short run is read byte by byte.
 pub fn reach_run(k: Run, s: &[u8], at: usize) -> usize
     ensures { λ r. ⌜ r ≡ reach (inRun k) (now (s .entry)) at ⌝ }
 {
@@ -60,6 +109,9 @@ pub fn reach_run(k: Run, s: &[u8], at: usize) -> usize
             i += 1;
         } else {
             return i;
+        }
+        if i % BLOCK == 0 {
+            i = past_blocks(k, s, i);
         }
     }
     i

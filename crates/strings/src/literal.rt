@@ -197,13 +197,16 @@ fn is_plain_block(s: &[u8], e: usize) -> bool
     plain
 }
 
-// Passes over blocks of plain bytes from i on.
+// Passes over blocks of plain bytes from i on. Where escapes follow each other there are none, and the first byte says it.
 fn skip_blocks(s: &[u8], i: usize) -> usize
     requires { ⌜ i ≤ length (now s) ⌝ }
     ensures { λ r. ⌜ WithinRuns (now (s .entry)) i r ⌝ }
 {
     let mut e = i;
     while BLOCK <= s.len() - e {
+        if !is_plain(s[e]) {
+            return e;
+        }
         if is_plain_block(s, e) {
             e += BLOCK;
         } else {

@@ -3,14 +3,15 @@ ghost use mathlib.Core.Path.{_≡_};
 ghost use Prim.Native.Nat.{_≤_};
 ghost use lib.ListN.{length};
 ghost use Rattle.base.specs.Runs.{reach};
-ghost use Rattle.utf8.specs.Ascii.{ascii, allAscii, Ahead};
+ghost use Rattle.base.specs.Blocks.{allPass, Ahead};
+ghost use Rattle.utf8.specs.Ascii.{isAscii, ascii};
 
 // How many bytes a block has.
 const BLOCK: usize = 16;
 
 // Whether all bytes are ASCII. It looks at every byte, so that several can be tested by one instruction.
 fn all_ascii(s: &[u8]) -> bool
-    ensures { λ r. ⌜ r ≡ allAscii (now (s .entry)) ⌝ }
+    ensures { λ r. ⌜ r ≡ allPass isAscii (now (s .entry)) ⌝ }
 {
     let mut all = true;
     let mut i = 0;
@@ -24,7 +25,7 @@ fn all_ascii(s: &[u8]) -> bool
 // The end of the ASCII blocks from `at` on.
 fn past_blocks(text: &[u8], at: usize) -> usize
     requires { ⌜ at ≤ length (now text) ⌝ }
-    ensures { λ r. ⌜ Ahead (now (text .entry)) at r ⌝ }
+    ensures { λ r. ⌜ Ahead ascii (now (text .entry)) at r ⌝ }
 {
     let mut i = at;
     while BLOCK <= text.len() - i {

@@ -1,6 +1,7 @@
 -- `reach_run` meets its contract: the run from here has the end that the run from `at` has. Assumes nothing.
 use mathlib.Core.Path.{_≡_, refl, sym, _∙_}
 use Prim.Native.Nat.{_-_}
+use native.Mathlib.Omega.{arith}
 use borrow.Author.Needs.{needs}
 use lib.ListN.{length}
 use Rattle.base.specs.Runs.{reach}
@@ -33,14 +34,29 @@ in-run-requires c κs = search needs
 add-i : tie.Need-add-i Inv-loop μ-loop
 add-i c = search needs
 
+returns : tie.Need-returns Inv-loop μ-loop
+returns c =
+    let b = c .before .before .before .before in
+    sym (reach-stop (inRun _) _ _ (b .loop-test .taken) (cc)) ∙ b .before .loop .inv
+
+past-blocks-requires : tie.Need-past-blocks-requires Inv-loop μ-loop
+past-blocks-requires c κs = search needs
+
 loop-less : tie.Need-loop-less Inv-loop μ-loop
-loop-less c = search needs
+loop-less c = omega (arith, c .past-blocks .ensures .later, c .before .before .before .before .before .before .loop-test .taken)
 
 loop-again : tie.Need-loop-again Inv-loop μ-loop
-loop-again c = let b = c .before .before .before .before in reach-step (inRun _) _ _ (b .loop-test .taken) (cc) ∙ b .before .loop .inv
+loop-again c =
+    let b = c .before .before .before .before .before .before in
+    c .past-blocks .ensures .same ∙ (reach-step (inRun _) _ _ (b .loop-test .taken) (cc) ∙ b .before .loop .inv)
 
-returns : tie.Need-returns Inv-loop μ-loop
-returns c = let b = c .before .before .before .before in sym (reach-stop (inRun _) _ _ (b .loop-test .taken) (cc)) ∙ b .before .loop .inv
+loop-less-2 : tie.Need-loop-less-2 Inv-loop μ-loop
+loop-less-2 c = search needs
+
+loop-again-2 : tie.Need-loop-again-2 Inv-loop μ-loop
+loop-again-2 c =
+    let b = c .before .before .before .before .before in
+    reach-step (inRun _) _ _ (b .loop-test .taken) (cc) ∙ b .before .loop .inv
 
 returns-2 : tie.Need-returns-2 Inv-loop μ-loop
 returns-2 c = sym (reach-end (inRun _) _ _ (c .loop-test .left)) ∙ c .before .loop .inv
@@ -57,7 +73,10 @@ reach-run-spec =
     peek-requires
     in-run-requires
     add-i
+    returns
+    past-blocks-requires
     loop-less
     loop-again
-    returns
+    loop-less-2
+    loop-again-2
     returns-2)

@@ -19,6 +19,15 @@ loop-holds c = search skip-none
 sub-loop : tie.Need-sub-loop Inv-loop μ-loop
 sub-loop c = search needs
 
+shared-slice-read-is-plain : tie.Need-shared-slice-read-is-plain Inv-loop μ-loop
+shared-slice-read-is-plain c = search needs
+
+is-plain-requires : tie.Need-is-plain-requires Inv-loop μ-loop
+is-plain-requires c κs = search needs
+
+returns : tie.Need-returns Inv-loop μ-loop
+returns c = search needs
+
 is-plain-block-requires : tie.Need-is-plain-block-requires Inv-loop μ-loop
 is-plain-block-requires c κs = search needs
 
@@ -31,11 +40,11 @@ loop-less c = search needs
 loop-again : tie.Need-loop-again Inv-loop μ-loop
 loop-again c = search skip-block
 
-returns : tie.Need-returns Inv-loop μ-loop
-returns c = search needs
-
 returns-2 : tie.Need-returns-2 Inv-loop μ-loop
 returns-2 c = search needs
+
+returns-3 : tie.Need-returns-3 Inv-loop μ-loop
+returns-3 c = search needs
 
 pub skip-blocks-spec : {M : Type 1} → statement M
 skip-blocks-spec =
@@ -45,9 +54,12 @@ skip-blocks-spec =
     μ-loop
     loop-holds
     sub-loop
+    shared-slice-read-is-plain
+    is-plain-requires
+    returns
     is-plain-block-requires
     add-e
     loop-less
     loop-again
-    returns
-    returns-2)
+    returns-2
+    returns-3)

@@ -3,14 +3,15 @@ use mathlib.Core.Path.{_≡_, refl}
 use mathlib.Core.Bool.{_&&_}
 use Prim.Native.Nat.{_-_}
 use lib.ListN.{length, drop}
-use Rattle.utf8.specs.Ascii.{allAscii}
-use Rattle.utf8.proofs.Runs.{all-turn, all-end}
+use Rattle.base.specs.Blocks.{allPass}
+use Rattle.base.proofs.Blocks.{all-turn, all-end}
+use Rattle.utf8.specs.Ascii.{isAscii}
 use borrow.Author.Needs.{needs}
 use Rattle.utf8.proofs.ascii.all_ascii.Statement.{statement}
 use Rattle.utf8.proofs.ascii.all_ascii.Tie as tie
 
 abbrev Inv-loop : tie.InvT-loop
-Inv-loop s all₀ i₀ all i = (all && allAscii (drop i s)) ≡ allAscii s
+Inv-loop s all₀ i₀ all i = (all && allPass isAscii (drop i s)) ≡ allPass isAscii s
 
 abbrev μ-loop : tie.MeasureT-loop
 μ-loop s all₀ i₀ all i = length s - i
@@ -28,7 +29,7 @@ loop-less : tie.Need-loop-less Inv-loop μ-loop
 loop-less c = search needs
 
 loop-again : tie.Need-loop-again Inv-loop μ-loop
-loop-again c = let l = c .before .before .loop in all-turn _ (l .all) (l .i) (l .inv) (c .before .loop-test .taken)
+loop-again c = let l = c .before .before .loop in all-turn isAscii _ (l .all) (l .i) (l .inv) (c .before .loop-test .taken)
 
 returns : tie.Need-returns Inv-loop μ-loop
 returns c = search all-end

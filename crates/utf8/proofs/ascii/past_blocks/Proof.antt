@@ -1,15 +1,16 @@
 -- `past_blocks` meets its contract: a block of ASCII bytes stays in the run. Assumes nothing.
 use Prim.Native.Nat.{_-_}
 use lib.ListN.{length}
-use Rattle.utf8.specs.Ascii.{Ahead}
-use Rattle.utf8.proofs.Runs.{ahead-first, ahead-block}
+use Rattle.base.specs.Blocks.{Ahead}
+use Rattle.base.proofs.Blocks.{ahead-first, ahead-block}
+use Rattle.utf8.specs.Ascii.{isAscii, ascii}
 use borrow.Author.Needs.{needs}
 use borrow.Author.Tests.{not-false}
 use Rattle.utf8.proofs.ascii.past_blocks.Statement.{statement}
 use Rattle.utf8.proofs.ascii.past_blocks.Tie as tie
 
 abbrev Inv-loop : tie.InvT-loop
-Inv-loop text at i₀ i = Ahead text at i
+Inv-loop text at i₀ i = Ahead ascii text at i
 
 abbrev μ-loop : tie.MeasureT-loop
 μ-loop text at i₀ i = length text - i
@@ -44,7 +45,7 @@ loop-less c = search needs
 loop-again : tie.Need-loop-again Inv-loop μ-loop
 loop-again c =
     let b = c .before .before .before in
-    ahead-block _ _ _ _ (b .before .loop .inv) (b .loop-test .taken) _ (c .before .all-ascii .ensures) (not-false _ (c .if1 .left))
+    ahead-block isAscii ascii (λ a n e. e) _ _ _ _ (b .before .loop .inv) (b .loop-test .taken) _ (c .before .all-ascii .ensures) (not-false _ (c .if1 .left))
 
 returns-2 : tie.Need-returns-2 Inv-loop μ-loop
 returns-2 c = search needs

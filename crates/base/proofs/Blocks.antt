@@ -1,0 +1,50 @@
+-- Runs a block at a time: bytes that all pass a test of their own stay in the run, by one byte after the other. Assumes nothing.
+use mathlib.Core.Path.{_≡_, refl, sym, _∙_}
+use mathlib.Core.Bool.{Bool, true, _&&_, and-assoc, and-true}
+use mathlib.Core.List.{List}
+use Prim.Native.Nat.{ℕ, zero, suc, _+_, _-_, _≤_, _<_}
+use native.Mathlib.Nat.{add-zero}
+use native.Mathlib.Numerals.{add-one}
+use native.Mathlib.Omega.{arith}
+use lib.ListN.{length, take, drop, drop-of-length-le}
+use lib.Seq.{drop-cons}
+use Rattle.base.specs.Bytes.{byte}
+use Rattle.base.specs.Runs.{reach}
+use Rattle.base.specs.Blocks.{allPass, Ahead}
+use Rattle.base.proofs.Reaches.{reach-step}
+use Rattle.base.proofs.Tests.{and-left, and-right}
+
+-- a loop over all bytes: what is passed and what is left make the whole
+module _ (t : ℕ → Bool) (s : List ℕ) (all : Bool) (i : ℕ) (u : all && allPass t (drop i s) ≡ allPass t s) where
+  pub all-turn : i < length s → (all && t (byte s i)) && allPass t (drop (i + 1) s) ≡ allPass t s
+  unfolding allPass
+  all-turn h = rw (add-one i, and-assoc all (t (byte s i)) (allPass t (drop (suc i) s))) (rw (drop-cons s i 0 h) at u)
+
+  pub all-end : length s ≤ i → all ≡ allPass t s
+  unfolding allPass
+  all-end h = sym (and-true all) ∙ (rw (drop-of-length-le s h) at u)
+
+pub ahead-first : (p : ℕ → ℕ → Bool) (s : List ℕ) (i : ℕ) → i ≤ length s → Ahead p s i i
+ahead-first p s i h = record { later = omega arith; inside = h; same = refl }
+
+-- a byte that passes the test is in the run, whatever byte comes after it
+module _ (t : ℕ → Bool) (p : ℕ → ℕ → Bool) (sure : (a b : ℕ) → t a ≡ true → p a b ≡ true) where
+  -- n such bytes from i on
+  block : (s : List ℕ) (n i : ℕ) → i + n ≤ length s → allPass t (take n (drop i s)) ≡ true → reach p s (i + n) ≡ reach p s i
+  unfolding allPass
+  block s zero i h e = rw (add-zero i)
+  block s (suc n) i h e =
+      let l : i < length s = omega arith in
+      let a : Bool = t (byte s i) in
+      let f : a && allPass t (take n (drop (suc i) s)) ≡ true = rw (drop-cons s i 0 l) at e in
+      let g : allPass t (take n (drop (i + 1) s)) ≡ true = rw (add-one i) (and-right a (allPass t (take n (drop (suc i) s))) f) in
+      let q : i + suc n ≡ i + 1 + n = omega arith in
+      let o : p (byte s i) (byte s (i + 1)) ≡ true = sure (byte s i) (byte s (i + 1)) (and-left a (allPass t (take n (drop (suc i) s))) f) in
+      rw q (block s n (i + 1) (omega arith) g ∙ reach-step p s i l o)
+
+  pub ahead-block : (s : List ℕ) (at i n : ℕ) → Ahead p s at i → n ≤ length s - i → (b : Bool) → b ≡ allPass t (take (i + n - i) (drop i s)) → b ≡ true
+      → Ahead p s at (i + n)
+  ahead-block s at i n u h b e y =
+      let z : i + n - i ≡ n = omega arith in
+      let f : allPass t (take n (drop i s)) ≡ true = sym (rw z at e) ∙ y in
+      record { later = omega (arith, u .later); inside = omega (arith, u .inside); same = block s n i (omega (arith, u .inside)) f ∙ u .same }

@@ -1,0 +1,18 @@
+-- Runs that are tested a block of bytes at a time.
+use mathlib.Core.Path.{_≡_}
+use mathlib.Core.Bool.{Bool, true, _&&_}
+use mathlib.Core.List.{List, [], _∷_}
+use Prim.Native.Nat.{ℕ, _≤_}
+use lib.ListN.{length}
+use Rattle.base.specs.Runs.{reach}
+
+-- all bytes pass the test
+unfoldable pub allPass : (ℕ → Bool) → List ℕ → Bool
+allPass t [] = true
+allPass t (a ∷ s) = t a && allPass t s
+
+-- r is in the run from i on, so that the run from r has the same end
+pub record Ahead (p : ℕ → ℕ → Bool) (s : List ℕ) (i r : ℕ) : Type 0 where
+  pub later : i ≤ r
+  pub inside : r ≤ length s
+  pub same : reach p s r ≡ reach p s i

@@ -1,0 +1,3 @@
+mod Negated
+mod Signs
+mod Digits

@@ -1,0 +1,3 @@
+// Numbers and bytes as the programs read and print them.
+pub mod numbers;
+pub mod parse;

@@ -1,6 +1,9 @@
 // Places in a text.
 ghost use mathlib.Core.Path.{_≡_};
-ghost use Rattle.token.specs.Place.{firstPlace, stepPlace, placeAt, Steppable, Walkable};
+ghost use Rattle.token.specs.Place.{firstPlace, stepPlace, placeAt, noNewline, Steppable, Walkable};
+
+// How many bytes a block has.
+const BLOCK: usize = 16;
 
 // A byte's offset, and the line and the column at which it stands. Columns count bytes.
 pub struct Place {
@@ -41,8 +44,21 @@ impl Place {
     }
 }
 
-// The place of the offset `to`, from the place of an offset before it.
-pub fn walk(text: &[u8], from: Place, to: usize) -> Place
+// Whether no byte is a newline. It looks at every byte, so that several can be tested by one instruction.
+fn no_newline(s: &[u8]) -> bool
+    ensures { λ r. ⌜ r ≡ noNewline (now (s .entry)) ⌝ }
+{
+    let mut none = true;
+    let mut i = 0;
+    while i < s.len() {
+        none = none & (s[i] != b'\n');
+        i += 1;
+    }
+    none
+}
+
+// The place of the offset `to`, byte by byte from the place of an offset before it.
+fn walk_bytes(text: &[u8], from: Place, to: usize) -> Place
     requires { ⌜ Walkable (now text) from to ⌝ }
     ensures { λ r. ⌜ r ≡ placeAt (now (text .entry)) to ⌝ }
 {
@@ -54,4 +70,35 @@ pub fn walk(text: &[u8], from: Place, to: usize) -> Place
         i += 1;
     }
     p
+}
+
+// The same, in one step if there is no newline on the way.
+fn walk_block(text: &[u8], from: Place, to: usize) -> Place
+    requires { ⌜ Walkable (now text) from to ⌝ }
+    ensures { λ r. ⌜ r ≡ placeAt (now (text .entry)) to ⌝ }
+{
+    let at = from.offset;
+    if no_newline(&text[at..to]) {
+        return Place {
+            offset: to,
+            line: from.line,
+            column: from.column + (to - at),
+        };
+    }
+    walk_bytes(text, from, to)
+}
+
+// The same, block by block as long as there are any.
+pub fn walk(text: &[u8], from: Place, to: usize) -> Place
+    requires { ⌜ Walkable (now text) from to ⌝ }
+    ensures { λ r. ⌜ r ≡ placeAt (now (text .entry)) to ⌝ }
+{
+    let mut p = from;
+    let mut i = from.offset;
+    while BLOCK <= to - i {
+        let end = i + BLOCK;
+        p = walk_block(text, p, end);
+        i = end;
+    }
+    walk_bytes(text, p, to)
 }

@@ -1,49 +1,44 @@
 -- `walk` gives the place of `to`: at each turn the place is that of the offset reached. Assumes nothing.
-use mathlib.Core.Path.{_≡_, _∙_}
-use Prim.Native.Nat.{_≤_, _<_, _-_}
+use mathlib.Core.Path.{_≡_}
+use Prim.Native.Nat.{_-_}
 use native.Mathlib.Omega.{arith}
-use lib.ListN.{length}
-use Rattle.token.specs.Place.{placeAt}
-use Rattle.token.proofs.Places.{place-step, place-steppable}
+use Rattle.token.specs.Place.{Walkable}
+use Rattle.token.proofs.Places.{walk-on}
+use borrow.Author.Needs.{needs}
 use Rattle.token.proofs.place.walk.Statement.{statement}
 use Rattle.token.proofs.place.walk.Tie as tie
 
 abbrev Inv-loop : tie.InvT-loop
-Inv-loop text to p₀ i₀ p i = (i ≤ to) × (to ≤ length text) × (length text ≤ 67108864) × (p ≡ placeAt text i)
+Inv-loop text to p₀ i₀ p i = Walkable text p to × (p .offset ≡ i)
 
 abbrev μ-loop : tie.MeasureT-loop
 μ-loop text to p₀ i₀ p i = to - i
 
 loop-holds : tie.Need-loop-holds Inv-loop μ-loop
-loop-holds c =
-    let w = c .before .pre in
-    (w .forward, w .inside, w .short, w .true-place)
+loop-holds c = search needs
 
-shared-slice-read-b : tie.Need-shared-slice-read-b Inv-loop μ-loop
-shared-slice-read-b c = omega arith
+sub-loop : tie.Need-sub-loop Inv-loop μ-loop
+sub-loop c = search needs
 
-step-requires : tie.Need-step-requires Inv-loop μ-loop
-step-requires c κs =
-    let l = c .before .before in
-    place-steppable (l .before .before .args .text .now) (l .loop .i) (l .loop .p) (l .loop .inv .3) (omega arith) (l .loop .inv .2)
+add-end : tie.Need-add-end Inv-loop μ-loop
+add-end c = search needs
 
-add-i : tie.Need-add-i Inv-loop μ-loop
-add-i c = omega arith
+walk-block-requires : tie.Need-walk-block-requires Inv-loop μ-loop
+walk-block-requires c κs = search needs
 
 loop-less : tie.Need-loop-less Inv-loop μ-loop
-loop-less c = omega arith
+loop-less c = search needs
 
 loop-again : tie.Need-loop-again Inv-loop μ-loop
 loop-again c =
-    let l = c .before .before .before in
-    let h : l .loop .i < length (l .before .before .args .text .now) = omega arith in
-    (omega arith, l .loop .inv .1, l .loop .inv .2, c .step .ensures ∙ place-step (l .before .before .args .text .now) (l .loop .i) (l .loop .p) (l .loop .inv .3) h)
+    let l = c .before .before .loop in
+    walk-on _ _ _ (l .inv .0) _ _ (omega arith) (c .walk-block .ensures)
+
+walk-bytes-requires : tie.Need-walk-bytes-requires Inv-loop μ-loop
+walk-bytes-requires c κs = search needs
 
 returns : tie.Need-returns Inv-loop μ-loop
-returns c =
-    let l = c .before in
-    let z : l .loop .i ≡ l .before .before .args .to = omega arith in
-    rw z at (l .loop .inv .3)
+returns c = search needs
 
 pub walk-spec : {M : Type 1} → statement M
 walk-spec =
@@ -52,9 +47,10 @@ walk-spec =
     Inv-loop
     μ-loop
     loop-holds
-    shared-slice-read-b
-    step-requires
-    add-i
+    sub-loop
+    add-end
+    walk-block-requires
     loop-less
     loop-again
+    walk-bytes-requires
     returns)

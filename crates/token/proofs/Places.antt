@@ -1,20 +1,20 @@
 -- Places as a fold over the bytes before them: two lists one after the other, one byte more, bounds, lines and columns, bytes
 -- without a newline. By induction on the list. Assumes nothing.
 use mathlib.Core.Path.{_≡_, refl, sym, ap, _∙_}
-use mathlib.Core.Bool.{Bool, true, false, not, _&&_, and-assoc, and-true}
+use mathlib.Core.Bool.{Bool, true, false, not, _&&_}
 use mathlib.Core.List.{List, [], _∷_, _++_}
 use Prim.Native.Nat.{ℕ, zero, suc, _+_, _-_, _≤_, _<_}
 use native.Mathlib.Nat.{add-zero}
 use native.Mathlib.Numerals.{add-one}
 use native.Mathlib.Omega.{arith}
-use lib.ListN.{length, getD, take, drop, length-drop, drop-of-length-le}
-use lib.Seq.{take-suc, take-add, length-take-le, drop-cons}
+use lib.ListN.{length, getD, take, drop, length-drop}
+use lib.Seq.{take-suc, take-add, length-take-le}
 use lib.Dec.{eqb}
 use Rattle.base.specs.Choice.{pick}
-use Rattle.base.specs.Bytes.{byte}
+use Rattle.base.specs.Blocks.{allPass}
 use Rattle.base.proofs.Tests.{true-false}
 use Rattle.limits.specs.Limits.{maxMessageSize}
-use Rattle.token.specs.Place.{firstPlace, stepPlace, placeAfter, placeAt, newlines, noNewline, sinceNewline, Bounded, Steppable, Walkable}
+use Rattle.token.specs.Place.{firstPlace, stepPlace, placeAfter, placeAt, newlines, notNewline, sinceNewline, Bounded, Steppable, Walkable}
 use Rattle.token.specs.declared.place.Place.{Place}
 
 -- the place after two lists is the place after the second from the place after the first
@@ -66,28 +66,18 @@ abbrev along : Place → ℕ → Place
 along p n = record { offset = p .offset + n; line = p .line; column = p .column + n }
 
 -- bytes without a newline stay on the line
-along-more : (x : Bool) (p : Place) (l : List ℕ) → ((q : Place) → noNewline l ≡ true → placeAfter q l ≡ along q (length l))
-    → not x && noNewline l ≡ true → placeAfter (stepBy x p) l ≡ along p (suc (length l))
+along-more : (x : Bool) (p : Place) (l : List ℕ) → ((q : Place) → allPass notNewline l ≡ true → placeAfter q l ≡ along q (length l))
+    → not x && allPass notNewline l ≡ true → placeAfter (stepBy x p) l ≡ along p (suc (length l))
 along-more true p l ih e = true-false false e refl
 along-more false p l ih e =
     let a : p .offset + 1 + length l ≡ p .offset + suc (length l) = omega arith in
     let b : p .column + 1 + length l ≡ p .column + suc (length l) = omega arith in
     rw (← a, ← b) (ih (stepBy false p) e)
 
-after-along : (p : Place) (l : List ℕ) → noNewline l ≡ true → placeAfter p l ≡ along p (length l)
-unfolding noNewline
+after-along : (p : Place) (l : List ℕ) → allPass notNewline l ≡ true → placeAfter p l ≡ along p (length l)
+unfolding allPass
 after-along p [] e = rw (add-zero (p .offset), add-zero (p .column))
 after-along p (b ∷ l) e = along-more (eqb b 0x0A) p l (λ q h. after-along q l h) e
-
--- `no_newline`: what is passed and what is left make the whole
-module _ (s : List ℕ) (none : Bool) (i : ℕ) (u : none && noNewline (drop i s) ≡ noNewline s) where
-  pub none-turn : i < length s → (none && not (eqb (byte s i) 0x0A)) && noNewline (drop (i + 1) s) ≡ noNewline s
-  unfolding noNewline
-  none-turn h = rw (add-one i, and-assoc none (not (eqb (byte s i) 0x0A)) (noNewline (drop (suc i) s))) (rw (drop-cons s i 0 h) at u)
-
-  pub none-end : length s ≤ i → none ≡ noNewline s
-  unfolding noNewline
-  none-end h = sym (and-true none) ∙ (rw (drop-of-length-le s h) at u)
 
 module _ (s : List ℕ) (i : ℕ) where
   -- the place of the next offset is one step further
@@ -132,17 +122,11 @@ module _ (s : List ℕ) (i : ℕ) (q : Place) (e : q ≡ placeAt s i) (h : i < l
       rw e (record { offset = omega arith; bounded = record { line = omega arith; column = omega arith } })
 
 module _ (s : List ℕ) (p : Place) (to : ℕ) (w : Walkable s p to) where
-  -- a place on the way can be walked from too
-  pub walk-on : (i : ℕ) (q : Place) → i ≤ to → q ≡ placeAt s i → Walkable s q to × (q .offset ≡ i)
-  walk-on i q h e =
-      let o : q .offset ≡ i = rw e (place-offset s i (omega (arith, w .inside))) in
-      (record { true-place = e ∙ ap (placeAt s) (sym o); forward = omega arith; inside = w .inside; short = w .short }, o)
-
   pub walk-bounded : Bounded p
   walk-bounded = rw (w .true-place) (place-bounded s (p .offset) (omega (arith, w .forward, w .inside)))
 
   -- over bytes without a newline
-  pub walk-along : noNewline (take (to - p .offset) (drop (p .offset) s)) ≡ true
+  pub walk-along : allPass notNewline (take (to - p .offset) (drop (p .offset) s)) ≡ true
       → _≡_ {A = Place} (record { offset = to; line = p .line; column = p .column + (to - p .offset) }) (placeAt s to)
   walk-along e =
       let n : ℕ = to - p .offset in

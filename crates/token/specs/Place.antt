@@ -1,6 +1,6 @@
 -- Places: document 01, "Places and records", first paragraph.
 use mathlib.Core.Path.{_≡_}
-use mathlib.Core.Bool.{Bool, true, not, _&&_}
+use mathlib.Core.Bool.{Bool, not}
 use mathlib.Core.List.{List, [], _∷_}
 use Prim.Native.Nat.{ℕ, suc, _+_, _≤_, _<_}
 use lib.ListN.{length, take}
@@ -33,10 +33,9 @@ abbrev pub newlines : List ℕ → ℕ
 newlines [] = 0
 newlines (b ∷ t) = pick (eqb b 0x0A) 1 0 + newlines t
 
--- no byte of a list is a newline
-unfoldable pub noNewline : List ℕ → Bool
-noNewline [] = true
-noNewline (b ∷ t) = not (eqb b 0x0A) && noNewline t
+-- a byte that is no newline
+abbrev pub notNewline : ℕ → Bool
+notNewline b = not (eqb b 0x0A)
 
 -- the bytes of a list since its last newline, n of them being counted already
 abbrev pub sinceNewline : ℕ → List ℕ → ℕ

@@ -1,9 +1,7 @@
 // Places in a text.
 ghost use mathlib.Core.Path.{_≡_};
-ghost use Rattle.token.specs.Place.{firstPlace, stepPlace, placeAt, noNewline, Steppable, Walkable};
-
-// How many bytes a block has.
-const BLOCK: usize = 16;
+ghost use Rattle.base.specs.Blocks.{allPass};
+ghost use Rattle.token.specs.Place.{firstPlace, stepPlace, placeAt, notNewline, Steppable, Walkable};
 
 // A byte's offset, and the line and the column at which it stands. Columns count bytes.
 pub struct Place {
@@ -46,7 +44,7 @@ impl Place {
 
 // Whether no byte is a newline. It looks at every byte, so that several can be tested by one instruction.
 fn no_newline(s: &[u8]) -> bool
-    ensures { λ r. ⌜ r ≡ noNewline (now (s .entry)) ⌝ }
+    ensures { λ r. ⌜ r ≡ allPass notNewline (now (s .entry)) ⌝ }
 {
     let mut none = true;
     let mut i = 0;
@@ -73,7 +71,7 @@ fn walk_bytes(text: &[u8], from: Place, to: usize) -> Place
 }
 
 // The same, in one step if there is no newline on the way.
-fn walk_block(text: &[u8], from: Place, to: usize) -> Place
+pub fn walk(text: &[u8], from: Place, to: usize) -> Place
     requires { ⌜ Walkable (now text) from to ⌝ }
     ensures { λ r. ⌜ r ≡ placeAt (now (text .entry)) to ⌝ }
 {
@@ -86,19 +84,4 @@ fn walk_block(text: &[u8], from: Place, to: usize) -> Place
         };
     }
     walk_bytes(text, from, to)
-}
-
-// The same, block by block as long as there are any.
-pub fn walk(text: &[u8], from: Place, to: usize) -> Place
-    requires { ⌜ Walkable (now text) from to ⌝ }
-    ensures { λ r. ⌜ r ≡ placeAt (now (text .entry)) to ⌝ }
-{
-    let mut p = from;
-    let mut i = from.offset;
-    while BLOCK <= to - i {
-        let end = i + BLOCK;
-        p = walk_block(text, p, end);
-        i = end;
-    }
-    walk_bytes(text, p, to)
 }

@@ -3,14 +3,15 @@ use mathlib.Core.Path.{_≡_, refl}
 use mathlib.Core.Bool.{_&&_}
 use Prim.Native.Nat.{_-_}
 use lib.ListN.{length, drop}
-use Rattle.token.specs.Place.{noNewline}
-use Rattle.token.proofs.Places.{none-turn, none-end}
+use Rattle.token.specs.Place.{notNewline}
+use Rattle.base.specs.Blocks.{allPass}
+use Rattle.base.proofs.Blocks.{all-turn, all-end}
 use borrow.Author.Needs.{needs}
 use Rattle.token.proofs.place.no_newline.Statement.{statement}
 use Rattle.token.proofs.place.no_newline.Tie as tie
 
 abbrev Inv-loop : tie.InvT-loop
-Inv-loop s none₀ i₀ none i = (none && noNewline (drop i s)) ≡ noNewline s
+Inv-loop s none₀ i₀ none i = (none && allPass notNewline (drop i s)) ≡ allPass notNewline s
 
 abbrev μ-loop : tie.MeasureT-loop
 μ-loop s none₀ i₀ none i = length s - i
@@ -28,10 +29,10 @@ loop-less : tie.Need-loop-less Inv-loop μ-loop
 loop-less c = search needs
 
 loop-again : tie.Need-loop-again Inv-loop μ-loop
-loop-again c = let l = c .before .before .loop in none-turn _ (l .none) (l .i) (l .inv) (c .before .loop-test .taken)
+loop-again c = let l = c .before .before .loop in all-turn notNewline _ (l .none) (l .i) (l .inv) (c .before .loop-test .taken)
 
 returns : tie.Need-returns Inv-loop μ-loop
-returns c = search none-end
+returns c = search all-end
 
 pub no-newline-spec : {M : Type 1} → statement M
 no-newline-spec =

@@ -1,56 +1,53 @@
--- `walk` gives the place of `to`: at each turn the place is that of the offset reached. Assumes nothing.
-use mathlib.Core.Path.{_≡_}
-use Prim.Native.Nat.{_-_}
+-- `walk` gives the place of `to`: without a newline on the way only the column grows. Assumes nothing.
+use mathlib.Core.Path.{sym, _∙_}
 use native.Mathlib.Omega.{arith}
-use Rattle.token.specs.Place.{Walkable}
-use Rattle.token.proofs.Places.{walk-on}
+use Rattle.token.proofs.Places.{walk-bounded, walk-along}
 use borrow.Author.Needs.{needs}
 use Rattle.token.proofs.place.walk.Statement.{statement}
 use Rattle.token.proofs.place.walk.Tie as tie
 
-abbrev Inv-loop : tie.InvT-loop
-Inv-loop text to p₀ i₀ p i = Walkable text p to × (p .offset ≡ i)
+sub-no-newline : tie.Need-sub-no-newline
+sub-no-newline c = search needs
 
-abbrev μ-loop : tie.MeasureT-loop
-μ-loop text to p₀ i₀ p i = to - i
+part-no-newline-start : tie.Need-part-no-newline-start
+part-no-newline-start c = search needs
 
-loop-holds : tie.Need-loop-holds Inv-loop μ-loop
-loop-holds c = search needs
+part-no-newline-end : tie.Need-part-no-newline-end
+part-no-newline-end c = search needs
 
-sub-loop : tie.Need-sub-loop Inv-loop μ-loop
-sub-loop c = search needs
+no-newline-requires : tie.Need-no-newline-requires
+no-newline-requires c κs = search needs
 
-add-end : tie.Need-add-end Inv-loop μ-loop
-add-end c = search needs
+sub-t10 : tie.Need-sub-t10
+sub-t10 c = search needs
 
-walk-block-requires : tie.Need-walk-block-requires Inv-loop μ-loop
-walk-block-requires c κs = search needs
+add-t11 : tie.Need-add-t11
+add-t11 c =
+    let w = c .before .before .before .before .before .pre in
+    let b = walk-bounded _ _ _ w in
+    omega (arith, b .column, w .forward, w .inside, w .short)
 
-loop-less : tie.Need-loop-less Inv-loop μ-loop
-loop-less c = search needs
+returns : tie.Need-returns
+returns c =
+    let b = c .before .before in
+    walk-along _ _ _ (b .before .before .before .pre) (sym (b .no-newline .ensures) ∙ c .before .if1 .taken)
 
-loop-again : tie.Need-loop-again Inv-loop μ-loop
-loop-again c =
-    let l = c .before .before .loop in
-    walk-on _ _ _ (l .inv .0) _ _ (omega arith) (c .walk-block .ensures)
-
-walk-bytes-requires : tie.Need-walk-bytes-requires Inv-loop μ-loop
+walk-bytes-requires : tie.Need-walk-bytes-requires
 walk-bytes-requires c κs = search needs
 
-returns : tie.Need-returns Inv-loop μ-loop
-returns c = search needs
+returns-2 : tie.Need-returns-2
+returns-2 c = search needs
 
 pub walk-spec : {M : Type 1} → statement M
 walk-spec =
     tie.close
     (tie.spec
-    Inv-loop
-    μ-loop
-    loop-holds
-    sub-loop
-    add-end
-    walk-block-requires
-    loop-less
-    loop-again
+    sub-no-newline
+    part-no-newline-start
+    part-no-newline-end
+    no-newline-requires
+    sub-t10
+    add-t11
+    returns
     walk-bytes-requires
-    returns)
+    returns-2)

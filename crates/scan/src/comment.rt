@@ -2,7 +2,7 @@
 ghost use mathlib.Core.Path.{_≡_};
 ghost use Rattle.scan.specs.Comment.{lexLineComment, openEnd, openComment, lexBlockComment};
 use crate::run::Run;
-use crate::run::reach_run;
+use crate::run::reach_long;
 use lexeme::Lexeme;
 use lexeme::Mode;
 use token::kind::TokenKind;
@@ -12,7 +12,7 @@ use utf8::check::char_end;
 pub fn lex_line_comment(s: &[u8]) -> Lexeme
     ensures { λ r. ⌜ r ≡ lexLineComment (now (s .entry)) ⌝ }
 {
-    lexeme::whole(TokenKind::Comment, reach_run(Run::Line, s, 0))
+    lexeme::whole(TokenKind::Comment, reach_long(Run::Line, s, 0))
 }
 
 // Where strict reading stops in an open block comment.
@@ -39,7 +39,7 @@ fn open_comment(s: &[u8], mode: Mode) -> Lexeme
 pub fn lex_block_comment(s: &[u8], mode: Mode) -> Lexeme
     ensures { λ r. ⌜ r ≡ lexBlockComment mode (now (s .entry)) ⌝ }
 {
-    let end = reach_run(Run::Body, s, 2);
+    let end = reach_long(Run::Body, s, 2);
     if end < s.len() {
         return lexeme::whole(TokenKind::Comment, end + 2);
     }

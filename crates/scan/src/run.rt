@@ -99,8 +99,8 @@ fn past_blocks(k: Run, s: &[u8], at: usize) -> usize
     i
 }
 
-// The end of the run that starts at `at`. Blocks are tried at every sixteenth byte, so that a short run is read byte by byte.
-pub fn reach_run(k: Run, s: &[u8], at: usize) -> usize
+// The end of the run that starts at `at`, for runs that are often long: blocks are tried at every sixteenth byte.
+pub fn reach_long(k: Run, s: &[u8], at: usize) -> usize
     ensures { λ r. ⌜ r ≡ reach (inRun k) (now (s .entry)) at ⌝ }
 {
     let mut i = at;
@@ -112,6 +112,24 @@ pub fn reach_run(k: Run, s: &[u8], at: usize) -> usize
         }
         if i % BLOCK == 0 {
             i = past_blocks(k, s, i);
+        }
+    }
+    i
+}
+
+// The same, for runs that are often short: it is small, and goes on as above only where a run is long.
+pub fn reach_run(k: Run, s: &[u8], at: usize) -> usize
+    ensures { λ r. ⌜ r ≡ reach (inRun k) (now (s .entry)) at ⌝ }
+{
+    let mut i = at;
+    while i < s.len() {
+        if in_run(k, s[i], base::peek(s, i + 1)) {
+            i += 1;
+        } else {
+            return i;
+        }
+        if i % BLOCK == 0 {
+            return reach_long(k, s, i);
         }
     }
     i

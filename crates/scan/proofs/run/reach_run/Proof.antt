@@ -39,27 +39,24 @@ returns c =
     let b = c .before .before .before .before in
     sym (reach-stop (inRun _) _ _ (b .loop-test .taken) (cc)) ∙ b .before .loop .inv
 
-past-blocks-requires : tie.Need-past-blocks-requires Inv-loop μ-loop
-past-blocks-requires c κs = search needs
+reach-long-requires : tie.Need-reach-long-requires Inv-loop μ-loop
+reach-long-requires c κs = search needs
+
+returns-2 : tie.Need-returns-2 Inv-loop μ-loop
+returns-2 c =
+    let b = c .before .before .before .before .before .before in
+    c .reach-long .ensures ∙ (reach-step (inRun _) _ _ (b .loop-test .taken) (cc) ∙ b .before .loop .inv)
 
 loop-less : tie.Need-loop-less Inv-loop μ-loop
-loop-less c = omega (arith, c .past-blocks .ensures .later, c .before .before .before .before .before .before .loop-test .taken)
+loop-less c = search needs
 
 loop-again : tie.Need-loop-again Inv-loop μ-loop
 loop-again c =
-    let b = c .before .before .before .before .before .before in
-    c .past-blocks .ensures .same ∙ (reach-step (inRun _) _ _ (b .loop-test .taken) (cc) ∙ b .before .loop .inv)
-
-loop-less-2 : tie.Need-loop-less-2 Inv-loop μ-loop
-loop-less-2 c = search needs
-
-loop-again-2 : tie.Need-loop-again-2 Inv-loop μ-loop
-loop-again-2 c =
     let b = c .before .before .before .before .before in
     reach-step (inRun _) _ _ (b .loop-test .taken) (cc) ∙ b .before .loop .inv
 
-returns-2 : tie.Need-returns-2 Inv-loop μ-loop
-returns-2 c = sym (reach-end (inRun _) _ _ (c .loop-test .left)) ∙ c .before .loop .inv
+returns-3 : tie.Need-returns-3 Inv-loop μ-loop
+returns-3 c = sym (reach-end (inRun _) _ _ (c .loop-test .left)) ∙ c .before .loop .inv
 
 pub reach-run-spec : {M : Type 1} → statement M
 reach-run-spec =
@@ -74,9 +71,8 @@ reach-run-spec =
     in-run-requires
     add-i
     returns
-    past-blocks-requires
+    reach-long-requires
+    returns-2
     loop-less
     loop-again
-    loop-less-2
-    loop-again-2
-    returns-2)
+    returns-3)

@@ -27,17 +27,20 @@ impl Place {
         requires { ⌜ Steppable self ⌝ }
         ensures { λ r. ⌜ r ≡ stepPlace self b ⌝ }
     {
+        let offset = self.offset + 1;
         if b == b'\n' {
+            let line = self.line + 1;
             return Self {
-                offset: self.offset + 1,
-                line: self.line + 1,
+                offset,
+                line,
                 column: 1,
             };
         }
+        let column = self.column + 1;
         Self {
-            offset: self.offset + 1,
+            offset,
             line: self.line,
-            column: self.column + 1,
+            column,
         }
     }
 }

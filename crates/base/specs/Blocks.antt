@@ -1,8 +1,9 @@
 -- Runs that are tested a block of bytes at a time.
 use mathlib.Core.Path.{_≡_}
-use mathlib.Core.Bool.{Bool, true, _&&_}
+use mathlib.Core.Bool.{Bool, true, not, _&&_}
 use mathlib.Core.List.{List, [], _∷_}
 use Prim.Native.Nat.{ℕ, _≤_}
+use lib.Dec.{eqb}
 use lib.ListN.{length}
 use Rattle.base.specs.Runs.{reach}
 
@@ -10,6 +11,14 @@ use Rattle.base.specs.Runs.{reach}
 unfoldable pub allPass : (ℕ → Bool) → List ℕ → Bool
 allPass t [] = true
 allPass t (a ∷ s) = t a && allPass t s
+
+-- any byte but c
+abbrev pub isNot : ℕ → ℕ → Bool
+isNot c a = not (eqb a c)
+
+-- the same as the test of a run; what follows the byte does not count
+abbrev pub other : ℕ → ℕ → ℕ → Bool
+other c a b = isNot c a
 
 -- r is in the run from i on, so that the run from r has the same end
 pub record Ahead (p : ℕ → ℕ → Bool) (s : List ℕ) (i r : ℕ) : Type 0 where

@@ -7,6 +7,7 @@ ghost use lib.Seq.{sets};
 ghost use Rattle.base.specs.Bytes.{byte};
 
 pub mod class;
+pub mod find;
 
 // The byte at `k`, or 0 past the end.
 pub fn peek(s: &[u8], k: usize) -> u8

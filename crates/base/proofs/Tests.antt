@@ -5,6 +5,7 @@ use mathlib.Core.List.{List}
 use Prim.Native.Nat.{ℕ, _≤_, _<_, zero-le}
 use native.Mathlib.Omega.{arith}
 use borrow.Author.Tests.{le-leb, lt-leb, leb-true, leb-false, ltb-true, ltb-false, eqb-true, eqb-false}
+use mir.Val.{boolByte}
 use lib.Dec.{T, leb, ltb, eqb}
 use lib.ListN.{length, List·getD-eq-default}
 use Rattle.base.specs.Choice.{pick}
@@ -135,3 +136,8 @@ within-one k x = go (eqb x k) refl
         apart : (b : Bool) → ltb x k ≡ b → within k k x ≡ false
         apart true l = under k k x (ltb-true x k l)
         apart false l = let h = ltb-false x k l in let d = eqb-false x k e in over k k x (omega arith)
+
+-- a test as a number
+pub as-number : (t : Bool) → boolByte t ≡ pick t 1 0
+as-number true = refl
+as-number false = refl

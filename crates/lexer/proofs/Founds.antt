@@ -3,7 +3,7 @@ use mathlib.Core.Path.{_≡_, refl, sym, ap, _∙_, subst}
 use mathlib.Core.Bool.{true, _||_}
 use mathlib.Core.Logic.{⊎-elim}
 use mathlib.Core.List.{List, [], _∷_}
-use Prim.Native.Nat.{ℕ, zero, suc, _+_, _≤_, _<_}
+use Prim.Native.Nat.{ℕ, zero, suc, _+_, _-_, _≤_, _<_}
 use native.Mathlib.Nat.{add-zero, eq-or-lt-of-le}
 use native.Mathlib.Omega.{arith}
 use lib.Dec.{ltb, eqb}
@@ -15,15 +15,16 @@ use Rattle.base.specs.Bytes.{byte, AreBytes}
 use Rattle.base.specs.Classes.{isSpace}
 use Rattle.base.specs.Runs.{run, reach}
 use Rattle.base.proofs.Reaches.{reach-ge, reach-le, reach-all}
-use Rattle.base.proofs.Tests.{or-case}
+use Rattle.base.proofs.Tests.{or-case, true-false}
 use Rattle.utf8.specs.Grammar as octets
 use Rattle.utf8.specs.Grammar.{Octets, Boundary}
 use Rattle.utf8.proofs.Boundaries.{boundary-le, boundary-rest, rest-boundary, reach-boundary}
 use Rattle.go_duration.specs.Written.{SumOfParts}
-use Rattle.token.specs.Place.{placeAt, Walkable}
+use Rattle.token.specs.Kind.{onOneLine}
+use Rattle.token.specs.Place.{placeAt, Flat, Walkable}
 use Rattle.token.specs.declared.kind.TokenKind.the-variants as K
 use Rattle.token.specs.declared.place.Place.{Place}
-use Rattle.token.proofs.Places.{place-offset}
+use Rattle.token.proofs.Places.{place-offset, flat-along}
 use Rattle.lexeme.specs.Lexeme.{bare, Note}
 use Rattle.lexeme.specs.declared.Lexeme.{Lexeme}
 use Rattle.lexeme.specs.declared.Mode.{Mode}
@@ -111,6 +112,25 @@ module _ (m : Mode) (limit : ℕ) (text : List ℕ) (p : Place) (w : Walkable te
   to-start =
       let n = next-of m limit text (p .offset) (w .inside) f e in
       record { true-place = w .true-place; forward = n .after; inside = n .start-in; short = w .short }
+
+  -- the blanks before it have no newline
+  gap-flat : Flat (drop (p .offset) text) (f .start - p .offset)
+  unfolding isSpace
+  gap-flat j h z =
+      let n = next-of m limit text (p .offset) (w .inside) f e in
+      let b : byte text (p .offset + j) ≡ 10 = sym (getD-drop (p .offset) text j 0) ∙ z in
+      true-false (isSpace 10) (rw b at (n .gap (p .offset + j) (omega arith) (omega arith))) refl
+
+  pub start-along : _≡_ {A = Place} (record { offset = f .start; line = p .line; column = p .column + (f .start - p .offset) }) (placeAt text (f .start))
+  start-along =
+      let n = next-of m limit text (p .offset) (w .inside) f e in
+      let z : p .offset + (f .start - p .offset) ≡ f .start = omega (arith, n .after) in
+      rw z at (flat-along text p (f .start - p .offset) (record { true-place = w .true-place; forward = omega arith; inside = omega (arith, n .after, n .start-in); short = w .short }) gap-flat)
+
+  pub end-flat : onOneLine (f .lexeme .kind) ≡ true → Flat (drop (f .start) text) (f .lexeme .len)
+  end-flat q =
+      let n = next-of m limit text (p .offset) (w .inside) f e in
+      ⊎-elim (λ z. rw (n .eof z) (λ j h _. absurd (omega arith))) (λ l. n .more l .on-line q) (eq-or-lt-of-le (n .start-in))
 
   pub to-end : (q : Place) → q ≡ placeAt text (f .start) → Walkable text q (endOf f)
   to-end q d =

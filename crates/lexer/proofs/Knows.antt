@@ -1,6 +1,6 @@
 -- What a token's class says of its first bytes: by cases on the tests of `classOf`. Assumes nothing.
 use mathlib.Core.Path.{_≡_, refl, sym, subst, _∙_}
-use mathlib.Core.Bool.{Bool, true, false, _&&_}
+use mathlib.Core.Bool.{Bool, true, false, _&&_, _||_}
 use mathlib.Core.Logic.{_⊎_, inl, inr}
 use mathlib.Core.List.{List}
 use Prim.Native.Nat.{ℕ, _≤_}
@@ -12,6 +12,7 @@ use Rattle.base.specs.Classes.{isDigit, isIdentStart}
 use Rattle.base.proofs.Tests.{and-left, and-right, pick-case}
 use Rattle.token.specs.declared.kind.TokenKind.{TokenKind}
 use Rattle.token.specs.declared.kind.TokenKind.the-variants as K
+use Rattle.scan.specs.Number.{isSign}
 use Rattle.triple_strings.specs.Triple.{quotes}
 use Rattle.triple_strings.proofs.QuoteSearch.{quotes-long}
 use Rattle.lexer.specs.Lexer.{classOf, classAt}
@@ -40,8 +41,7 @@ Knows a b c C.Quote = a ≡ 34
 Knows a b c C.Bytes = (a ≡ 98) × (b ≡ 34)
 Knows a b c (C.Single k) = Mark a k
 Knows a b c C.Directive = a ≡ 64
-Knows a b c C.Signed = (a ≡ 43) ⊎ (a ≡ 45)
-Knows a b c C.Unsigned = isDigit a ≡ true
+Knows a b c C.Number = isSign a || isDigit a ≡ true
 Knows a b c C.Name = (a ≡ 98) ⊎ (isIdentStart a ≡ true)
 Knows a b c C.Other = Unit {0}
 
@@ -74,9 +74,9 @@ module _ (a b c : ℕ) where
       (λ _. pick-case P (eqb a 58) (λ e. rw (is 58 e) colon)
       (λ _. pick-case P (eqb a 44) (λ e. rw (is 44 e) comma)
       (λ _. pick-case P (eqb a 64) (λ e. is 64 e)
-      (λ _. pick-case P (eqb a 43) (λ e. inl (is 43 e))
-      (λ _. pick-case P (eqb a 45) (λ e. inr (is 45 e))
-      (λ _. pick-case P (isDigit a) (λ e. e)
+      (λ _. pick-case P (eqb a 43) (λ e. rw e)
+      (λ p. pick-case P (eqb a 45) (λ e. rw (p, e))
+      (λ q. pick-case P (isDigit a) (λ e. rw (p, q, e))
       (λ _. pick-case P (isIdentStart a) (λ e. inr e) (λ _. tt)))))))))))))))))))
 
 -- the same of the front of a list

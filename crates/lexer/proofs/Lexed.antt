@@ -6,18 +6,19 @@ use mathlib.Core.Logic.{⊎-elim, _⊎_, inl, inr}
 use mathlib.Core.List.{List, [], _∷_, List·Memᴰ, List·Memᴰ·head, List·Memᴰ·tail, List·Memᴰ·not-nil}
 use Prim.Native.Nat.{ℕ, zero, suc, _+_, _≤_, _<_}
 use native.Mathlib.Omega.{arith}
-use lib.Dec.{eqb, lit<}
-use lib.ListN.{length, take}
+use lib.Dec.{ltb, eqb, lit<}
+use lib.ListN.{length, take, drop}
 use borrow.Author.Tests.{eq-eqb, ne-eqb}
 use Rattle.base.specs.Bytes.{byte}
 use Rattle.base.specs.Classes.{isDigit, isIdentStart}
-use Rattle.base.proofs.Tests.{in-text, pick-case}
+use Rattle.base.proofs.Tests.{in-text, pick-case, true-false}
 use Rattle.utf8.specs.Grammar as octets
 use Rattle.utf8.specs.Grammar.{Boundary, Octets}
 use Rattle.utf8.proofs.Boundaries.{ascii-boundary, boundary-rest}
 use Rattle.go_duration.specs.Written.{SumOfParts}
 use Rattle.go_duration.proofs.WrittenSums.{sum-of-parts}
-use Rattle.token.specs.Kind.{kindNumber}
+use Rattle.token.specs.Kind.{kindNumber, onOneLine}
+use Rattle.token.specs.Place.{Flat}
 use Rattle.token.proofs.KindNumbers.{number-kind}
 use Rattle.token.specs.declared.kind.TokenKind.{TokenKind}
 use Rattle.token.specs.declared.kind.TokenKind.the-variants as K
@@ -26,16 +27,18 @@ use Rattle.lexeme.specs.declared.Lexeme.{Lexeme}
 use Rattle.lexeme.specs.declared.Mode.{Mode}
 use Rattle.lexeme.specs.declared.Mode.the-variants.{Strict, Tolerant}
 use Rattle.lexeme.proofs.Within.{Within, whole-within, bare-within}
-use Rattle.scan.specs.Comment.{lexLineComment, lexBlockComment, blockNotes}
+use Rattle.scan.specs.Comment.{lexLineComment, bodyEnd, openComment, lexBlockComment, blockNotes}
 use Rattle.scan.specs.Name.{lexIdent, lexDirective}
-use Rattle.scan.specs.Number.{lexSigned, lexUnsigned}
-use Rattle.scan.specs.Bytes.{lexBytes, bytesNotes}
+use Rattle.scan.specs.Number.{lexNumber}
+use Rattle.scan.specs.Bytes.{bytesBy, bytesStop, lexBytes, bytesNotes}
+use Rattle.scan.specs.declared.bytes.Stop.{Stop}
+use Rattle.scan.specs.declared.bytes.Stop.the-variants as stop
 use Rattle.scan.specs.Other.{lexOther}
-use Rattle.scan.proofs.Silent.{line-silent, ident-silent, other-silent, directive-silent, unsigned-silent, signed-silent}
-use Rattle.scan.proofs.Scanned.{Plain, plain, Scanned, Ends, whole-scanned, extent-scanned}
+use Rattle.scan.proofs.Silent.{line-silent, ident-silent, other-silent, directive-silent, number-silent}
+use Rattle.scan.proofs.Scanned.{Plain, plain, Scanned, OnLine, Ends, whole-scanned, extent-scanned}
 use Rattle.scan.proofs.Comments.{line-scanned, block-scanned, block-notes-size, block-notes-start}
-use Rattle.scan.proofs.Names.{ident-scanned, directive-scanned}
-use Rattle.scan.proofs.Numbers.{signed-scanned, unsigned-scanned}
+use Rattle.scan.proofs.Names.{ident-on-line, directive-on-line}
+use Rattle.scan.proofs.Numbers.{number-on-line}
 use Rattle.scan.proofs.Literals.{bytes-scanned, bytes-notes-size, bytes-notes-start}
 use Rattle.scan.proofs.Others.{other-scanned}
 use Rattle.strings.proofs.Laws.{NoteIn, string-within, string-kind, string-size, string-notes-size, illegal-bytes, notes-in, string-utf8, string-boundary}
@@ -69,6 +72,7 @@ pub record Facts (s : List ℕ) (r : Lexeme) (bytes : List ℕ) (ns : List Note)
   pub duration : r .kind ≡ K.Duration → SumOfParts (take (r .len) s) (r .nanos)
   pub boundary : Boundary s 0 → Boundary s (r .len)
   pub utf8 : Boundary s 0 → Octets bytes
+  pub on-line : onOneLine (r .kind) ≡ true → Flat s (r .len)
 
 -- a kind that is no String lays nothing into the string buffer
 other-size : (k : TokenKind) (n : ℕ) → (k ≡ K.String → ⊥) → stringSize k n ≡ 0
@@ -81,8 +85,8 @@ string-is k n e = rw e
 
 -- what a lexer of `scan` finds, with its reports
 scanned-facts : (s : List ℕ) (r : Lexeme) (ns : List Note) → Scanned s r → length ns ≡ r .reports → ((x : Note) → List·Memᴰ x ns → x .offset ≡ 0)
-    → Facts s r [] ns
-scanned-facts s r ns c e f =
+    → (onOneLine (r .kind) ≡ true → Flat s (r .len)) → Facts s r [] ns
+scanned-facts s r ns c e f g =
     record {
       within = c .within;
       not-eof = c .not-eof;
@@ -92,17 +96,43 @@ scanned-facts s r ns c e f =
       duration = λ q. let d = c .duration q in sum-of-parts (take (r .len) s) (r .nanos) (d .value) (d .no-plus) (d .not-zero);
       boundary = c .boundary;
       utf8 = λ _. octets.none;
+      on-line = g;
     }
 
 -- one that makes no report
-silent-facts : (s : List ℕ) (r : Lexeme) → Scanned s r → r .reports ≡ 0 → Facts s r [] []
-silent-facts s r c e = scanned-facts s r [] c (sym e) (λ x i. absurd (List·Memᴰ·not-nil i))
+silent-facts : (s : List ℕ) (r : Lexeme) → Scanned s r → r .reports ≡ 0 → (onOneLine (r .kind) ≡ true → Flat s (r .len)) → Facts s r [] []
+silent-facts s r c e g = scanned-facts s r [] c (sym e) (λ x i. absurd (List·Memᴰ·not-nil i)) g
+
+-- one that makes none and stays on its line
+line-facts : (s : List ℕ) (r : Lexeme) → OnLine s r → r .reports ≡ 0 → Facts s r [] []
+line-facts s r c e = silent-facts s r (c .scanned) e (λ _. c .flat)
+
+-- tokens of a kind that can have a newline
+other-kind : {X : Type 0} (k : TokenKind) → onOneLine k ≡ false → onOneLine k ≡ true → X
+other-kind k e f = true-false (onOneLine k) f e
+
+block-kind : (m : Mode) (s : List ℕ) → onOneLine (lexBlockComment m s .kind) ≡ false
+unfolding lexBlockComment openComment onOneLine kindNumber
+block-kind m s = pick-case (λ (r : Lexeme). onOneLine (r .kind) ≡ false) (ltb (bodyEnd s) (length s)) (λ _. refl) (λ _. go m)
+  where
+    go : (n : Mode) → onOneLine (openComment n s .kind) ≡ false
+    go Strict = refl
+    go Tolerant = refl
+
+bytes-kind : (m : Mode) (s : List ℕ) (e : Stop) → onOneLine (bytesBy m s e .kind) ≡ false
+unfolding onOneLine kindNumber
+bytes-kind m s (stop.Over n) = refl
+bytes-kind m s (stop.Closed n) = refl
+bytes-kind Strict s (stop.Newline n) = refl
+bytes-kind Tolerant s (stop.Newline n) = refl
+bytes-kind Strict s (stop.Open n) = refl
+bytes-kind Tolerant s (stop.Open n) = refl
 
 -- what a literal of the two string lexers finds
 literal-facts : (s : List ℕ) (r : Lexeme) (bytes : List ℕ) (ns : List Note) → Within s r → (r .kind ≡ K.String) ⊎ (r .kind ≡ K.Illegal)
     → length bytes ≡ r .size → (r .kind ≡ K.Illegal → bytes ≡ []) → length ns ≡ r .reports → NotesIn (length s) ns
     → (Boundary s 0 → Boundary s (r .len)) → (Boundary s 0 → Octets bytes) → Facts s r bytes ns
-unfolding kindNumber
+unfolding onOneLine kindNumber
 literal-facts s r bytes ns w k e f n i b u =
     record {
       within = w;
@@ -115,6 +145,7 @@ literal-facts s r bytes ns w k e f n i b u =
       duration = λ q. ⊎-elim (λ p. absurd (omega (arith, ap kindNumber (sym p ∙ q)))) (λ p. absurd (omega (arith, ap kindNumber (sym p ∙ q)))) k;
       boundary = b;
       utf8 = u;
+      on-line = ⊎-elim (λ p. other-kind (r .kind) (rw p)) (λ p. other-kind (r .kind) (rw p)) k;
     }
 
 -- where a byte that is not 0 stands, the text has it
@@ -132,6 +163,18 @@ mark-ascii rParen = lit< tt
 mark-ascii equals = lit< tt
 mark-ascii colon = lit< tt
 mark-ascii comma = lit< tt
+
+-- and no newline
+mark-high : {a : ℕ} {k : TokenKind} → Mark a k → a ≡ 10 → ⊥
+mark-high lBrace e = omega (arith, e)
+mark-high rBrace e = omega (arith, e)
+mark-high lBracket e = omega (arith, e)
+mark-high rBracket e = omega (arith, e)
+mark-high lParen e = omega (arith, e)
+mark-high rParen e = omega (arith, e)
+mark-high equals e = omega (arith, e)
+mark-high colon e = omega (arith, e)
+mark-high comma e = omega (arith, e)
 
 mark-plain : {a : ℕ} {k : TokenKind} → Mark a k → Plain k
 unfolding kindNumber
@@ -159,15 +202,22 @@ triple-kind m s = pick-case (λ (r : Lexeme). (r .kind ≡ K.String) ⊎ (r .kin
 
 module _ (m : Mode) (limit : ℕ) (s : List ℕ) (h : 0 < length s) where
   mark-facts : (k : TokenKind) → Mark (byte s 0) k → Facts s (whole k 1) [] []
-  mark-facts k q = silent-facts s (whole k 1) (whole-scanned s 1 (one-byte s h (mark-ascii q)) k (mark-plain q)) refl
+  mark-facts k q =
+      line-facts s (whole k 1)
+      (record { scanned = whole-scanned s 1 (one-byte s h (mark-ascii q)) k (mark-plain q); flat = mark-flat q }) refl
+    where
+      mark-flat : Mark (byte s 0) k → Flat s 1
+      mark-flat w j l e =
+          let z : j ≡ 0 = omega arith in
+          mark-high w (rw z at e)
 
   pub by-class : (k : Class) → Knows (byte s 0) (byte s 1) (byte s 2) k → Facts s (lexBy k m limit s) (stringBy k m s) (notesBy k m limit s)
-  unfolding lexBy stringBy notesBy quotes kindNumber isIdentStart
+  unfolding lexBy stringBy notesBy quotes kindNumber onOneLine isIdentStart lexLineComment lexBytes lexOther
   by-class C.Newline q =
       silent-facts s (bare K.Newline 1)
-      (extent-scanned s 1 (one-byte s h (omega arith)) K.Newline 1 0 0 (plain K.Newline refl) (omega arith) (omega arith)) refl
-  by-class C.LineComment q = silent-facts s (lexLineComment s) (line-scanned s h (ne-eqb (byte s 0) 10 (λ e. ⊎-elim (λ a. absurd (omega arith)) (λ a. absurd (omega (arith, a .0))) q))) (line-silent s)
-  by-class C.BlockComment q = scanned-facts s (lexBlockComment m s) (blockNotes m s) (block-scanned s (byte-in s 1 42 (omega arith) (q .1)) m) (block-notes-size m s) (block-notes-start m s)
+      (extent-scanned s 1 (one-byte s h (omega arith)) K.Newline 1 0 0 (plain K.Newline refl) (omega arith) (omega arith)) refl (other-kind K.Newline refl)
+  by-class C.LineComment q = silent-facts s (lexLineComment s) (line-scanned s h (ne-eqb (byte s 0) 10 (λ e. ⊎-elim (λ a. absurd (omega arith)) (λ a. absurd (omega (arith, a .0))) q))) (line-silent s) (other-kind K.Comment refl)
+  by-class C.BlockComment q = scanned-facts s (lexBlockComment m s) (blockNotes m s) (block-scanned s (byte-in s 1 42 (omega arith) (q .1)) m) (block-notes-size m s) (block-notes-start m s) (other-kind (lexBlockComment m s .kind) (block-kind m s))
   by-class C.Triple q =
       let z : quotes s ≡ true = rw (q .0, q .1 .0, q .1 .1) in
       let c = triple-size m s in
@@ -178,12 +228,12 @@ module _ (m : Mode) (limit : ℕ) (s : List ℕ) (h : 0 < length s) where
       literal-facts s (lexString m s) (stringBytes m s) (stringNotes m s) (string-within m s h) (string-kind m s) (string-size m s) (illegal-bytes m s)
       (string-notes-size m s) (notes-all (length s) (stringNotes m s) (λ x i. notes-in m s h x i .offset-in)) (λ b. string-boundary m s h b) (λ b. string-utf8 m s)
   by-class C.Bytes q = scanned-facts s (lexBytes m limit s) (bytesNotes m limit s) (bytes-scanned s (byte-in s 1 34 (omega arith) (q .1)) m limit) (bytes-notes-size m limit s) (bytes-notes-start m limit s)
+      (other-kind (lexBytes m limit s .kind) (bytes-kind m s (bytesStop limit 0 (drop 2 s))))
   by-class (C.Single k) q = mark-facts k q
-  by-class C.Directive q = silent-facts s (lexDirective s) (directive-scanned s h (omega arith)) (directive-silent s)
-  by-class C.Signed q = silent-facts s (lexSigned s) (signed-scanned s (⊎-elim (λ e. rw e) (λ e. rw e) q)) (signed-silent s)
-  by-class C.Unsigned q = silent-facts s (lexUnsigned s) (unsigned-scanned s q) (unsigned-silent s)
-  by-class C.Name q = silent-facts s (lexIdent s) (ident-scanned s (⊎-elim (λ e. rw e) (λ e. e) q)) (ident-silent s)
-  by-class C.Other q = silent-facts s (lexOther s) (other-scanned s h) (other-silent s)
+  by-class C.Directive q = line-facts s (lexDirective s) (directive-on-line s q) (directive-silent s)
+  by-class C.Number q = line-facts s (lexNumber s) (number-on-line s q) (number-silent s)
+  by-class C.Name q = line-facts s (lexIdent s) (ident-on-line s (⊎-elim (λ e. rw e) (λ e. e) q)) (ident-silent s)
+  by-class C.Other q = silent-facts s (lexOther s) (other-scanned s h) (other-silent s) (other-kind K.Illegal refl)
 
 -- what is known of the token at the front of a text that is not at its end
 abbrev pub Lexed : Mode → ℕ → List ℕ → Lexeme → Type 0

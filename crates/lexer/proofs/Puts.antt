@@ -23,7 +23,7 @@ use Rattle.lexeme.specs.Reports.{reportAt, reportOf, notesNumbers}
 use Rattle.lexeme.specs.declared.Mode.{Mode}
 use Rattle.lexeme.specs.declared.Mode.the-variants.{Strict, Tolerant}
 use Rattle.lexeme.proofs.Notes.{notes-length, report-fits}
-use Rattle.scan.specs.Comment as block
+use Rattle.scan.specs.Comment as comment
 use Rattle.scan.specs.Comment.{bodyEnd, blockNotes}
 use Rattle.scan.specs.Bytes.{bytesStop, bytesNotes, notesBy, stopReason}
 use Rattle.scan.specs.declared.bytes.Stop.{Stop}
@@ -32,7 +32,7 @@ use Rattle.strings.specs.Literal.{literalOf, lexString, stringBytes, stringNote
 use Rattle.strings.specs.Notes.{NotesFit}
 use Rattle.strings.proofs.Laws.{string-kind, string-bytes, illegal-bytes}
 use Rattle.triple_strings.specs.Dedent.{dedent}
-use Rattle.triple_strings.specs.Triple as triple
+use Rattle.triple_strings.specs.Triple as literal
 use Rattle.triple_strings.specs.Triple.{quotes, closed, rawBytes, lexTripleString, tripleBytes, tripleNotes}
 use Rattle.triple_strings.proofs.Triples.{triple-size, triple-bytes}
 use Rattle.lexer.specs.Lexer as lexer
@@ -67,8 +67,7 @@ string-class m s C.Quote h = inr refl
 string-class m s C.Bytes h = absurd (omega arith)
 string-class m s (C.Single k) h = absurd (omega arith)
 string-class m s C.Directive h = absurd (omega arith)
-string-class m s C.Signed h = absurd (omega arith)
-string-class m s C.Unsigned h = absurd (omega arith)
+string-class m s C.Number h = absurd (omega arith)
 string-class m s C.Name h = absurd (omega arith)
 string-class m s C.Other h = absurd (omega arith)
 
@@ -124,7 +123,7 @@ block-one : (m : Mode) (s : List ℕ) → 0 < length (blockNotes m s) → blockN
 unfolding blockNotes
 block-one m s h = go (ltb (bodyEnd s) (length s)) m h
   where
-    go : (b : Bool) (n : Mode) → 0 < length (pick b [] (block.openNotes n)) → pick b [] (block.openNotes n) ≡ noteAtStart 2 ∷ []
+    go : (b : Bool) (n : Mode) → 0 < length (pick b [] (comment.openNotes n)) → pick b [] (comment.openNotes n) ≡ noteAtStart 2 ∷ []
     go true n l = absurd (omega arith)
     go false Strict l = absurd (omega arith)
     go false Tolerant l = refl
@@ -133,7 +132,7 @@ triple-one : (m : Mode) (s : List ℕ) → 0 < length (tripleNotes m s) → trip
 unfolding tripleNotes
 triple-one m s h = go (closed s) m h
   where
-    go : (b : Bool) (n : Mode) → 0 < length (pick b [] (triple.openNotes n)) → pick b [] (triple.openNotes n) ≡ noteAtStart 12 ∷ []
+    go : (b : Bool) (n : Mode) → 0 < length (pick b [] (literal.openNotes n)) → pick b [] (literal.openNotes n) ≡ noteAtStart 12 ∷ []
     go true n l = absurd (omega arith)
     go false Strict l = absurd (omega arith)
     go false Tolerant l = refl
@@ -153,6 +152,27 @@ stop-small (stop.Closed n) = lit≤ tt
 stop-small (stop.Newline n) = lit≤ tt
 stop-small (stop.Open n) = lit≤ tt
 
+-- the classes of tokens that can have reports
+data Noting : Class → Type 0 where
+  block : Noting C.BlockComment
+  triple : Noting C.Triple
+  bytes : Noting C.Bytes
+  quote : Noting C.Quote
+
+noting : (m : Mode) (limit : ℕ) (s : List ℕ) (k : Class) → 0 < length (lexer.notesBy k m limit s) → Noting k
+unfolding lexer.notesBy
+noting m limit s C.Newline h = absurd (omega arith)
+noting m limit s C.LineComment h = absurd (omega arith)
+noting m limit s C.BlockComment h = block
+noting m limit s C.Triple h = triple
+noting m limit s C.Quote h = quote
+noting m limit s C.Bytes h = bytes
+noting m limit s (C.Single k) h = absurd (omega arith)
+noting m limit s C.Directive h = absurd (omega arith)
+noting m limit s C.Number h = absurd (omega arith)
+noting m limit s C.Name h = absurd (omega arith)
+noting m limit s C.Other h = absurd (omega arith)
+
 module _ (m : Mode) (limit : ℕ) (text : List ℕ) (p : Place) (room at : ℕ) (q : ReportRoom m limit text p room at) where
   not-end : 0 < length (drop (p .offset) text)
   unfolding notesOf
@@ -165,35 +185,70 @@ module _ (m : Mode) (limit : ℕ) (text : List ℕ) (p : Place) (room at : ℕ) 
   pub notes-in-text : p .offset < length text
   notes-in-text = omega (arith, not-end, length-drop (p .offset) text)
 
-  module _ (k : Class) (e : k ≡ classAt (drop (p .offset) text)) where
-    pub notes-by : notesOf m limit (drop (p .offset) text) ≡ lexer.notesBy k m limit (drop (p .offset) text)
-    unfolding notesOf
-    notes-by = rw (ne-eqb (length (drop (p .offset) text)) 0 (λ z. absurd (omega (arith, not-end))), e)
+  abbrev rest : List ℕ
+  rest = drop (p .offset) text
 
-    some-by : 0 < length (lexer.notesBy k m limit (drop (p .offset) text))
-    some-by = rw notes-by at (q .some)
+  notes-by : notesOf m limit rest ≡ lexer.notesBy (classAt rest) m limit rest
+  unfolding notesOf
+  notes-by = rw (ne-eqb (length rest) 0 (λ z. absurd (omega (arith, z, not-end))))
 
-    pub block-report : k ≡ C.BlockComment → notesOf m limit (drop (p .offset) text) ≡ noteAtStart 2 ∷ []
-    unfolding lexer.notesBy
-    block-report z = notes-by ∙ rw z (block-one m (drop (p .offset) text) (rw z at some-by))
+  some-by : (k : Class) → classAt rest ≡ k → 0 < length (lexer.notesBy k m limit rest)
+  some-by k e = rw (← e, ← notes-by) (q .some)
 
-    pub triple-report : k ≡ C.Triple → notesOf m limit (drop (p .offset) text) ≡ noteAtStart 12 ∷ []
-    unfolding lexer.notesBy
-    triple-report z = notes-by ∙ rw z (triple-one m (drop (p .offset) text) (rw z at some-by))
+  -- the class by the byte at the front
+  by-byte : (k : Class) → classAt rest ≡ k → Noting k
+  by-byte k e = noting m limit rest k (some-by k e)
 
-    pub bytes-report : k ≡ C.Bytes
-        → notesOf m limit (drop (p .offset) text) ≡ noteAtStart (stopReason (bytesStop limit 0 (drop 2 (drop (p .offset) text)))) ∷ []
-    unfolding lexer.notesBy bytesNotes
-    bytes-report z = notes-by ∙ rw z (bytes-one m (bytesStop limit 0 (drop 2 (drop (p .offset) text))) (rw z at some-by))
+  block-class : byte rest 0 ≡ 47 → classAt rest ≡ C.BlockComment
+  block-class a = go (classAt rest) (by-byte (classAt rest) refl) (knows-at rest)
+    where
+      go : (k : Class) → Noting k → Knows (byte rest 0) (byte rest 1) (byte rest 2) k → k ≡ C.BlockComment
+      go C.BlockComment block w = refl
+      go C.Triple triple w = absurd (omega (arith, a, w .0))
+      go C.Bytes bytes w = absurd (omega (arith, a, w .0))
+      go C.Quote quote w = absurd (omega (arith, a, w))
 
-    pub quote-report : k ≡ C.Quote → notesOf m limit (drop (p .offset) text) ≡ stringNotes m (drop (p .offset) text)
-    unfolding lexer.notesBy
-    quote-report z = notes-by ∙ rw z
+  bytes-class : byte rest 0 ≡ 98 → classAt rest ≡ C.Bytes
+  bytes-class a = go (classAt rest) (by-byte (classAt rest) refl) (knows-at rest)
+    where
+      go : (k : Class) → Noting k → Knows (byte rest 0) (byte rest 1) (byte rest 2) k → k ≡ C.Bytes
+      go C.BlockComment block w = absurd (omega (arith, a, w .0))
+      go C.Triple triple w = absurd (omega (arith, a, w .0))
+      go C.Bytes bytes w = refl
+      go C.Quote quote w = absurd (omega (arith, a, w))
+
+  literal-class : (byte rest 0 ≡ 47 → ⊥) → (byte rest 0 ≡ 98 → ⊥) → quotes rest ≡ false → classAt rest ≡ C.Quote
+  unfolding quotes
+  literal-class a b z = go (classAt rest) (by-byte (classAt rest) refl) (knows-at rest)
+    where
+      go : (k : Class) → Noting k → Knows (byte rest 0) (byte rest 1) (byte rest 2) k → k ≡ C.Quote
+      go C.BlockComment block w = absurd (a (w .0))
+      go C.Triple triple w = true-false (quotes rest) (rw (w .0, w .1 .0, w .1 .1)) z
+      go C.Bytes bytes w = absurd (b (w .0))
+      go C.Quote quote w = refl
+
+  pub block-report : byte rest 0 ≡ 47 → notesOf m limit rest ≡ noteAtStart 2 ∷ []
+  unfolding lexer.notesBy
+  block-report a =
+      let z = block-class a in
+      notes-by ∙ rw z (block-one m rest (some-by C.BlockComment z))
+
+  pub triple-report : quotes rest ≡ true → notesOf m limit rest ≡ noteAtStart 12 ∷ []
+  unfolding lexer.notesBy
+  triple-report a =
+      let z = triple-class rest a in
+      notes-by ∙ rw z (triple-one m rest (some-by C.Triple z))
+
+  pub bytes-report : byte rest 0 ≡ 98 → notesOf m limit rest ≡ noteAtStart (stopReason (bytesStop limit 0 (drop 2 rest))) ∷ []
+  unfolding lexer.notesBy bytesNotes
+  bytes-report a =
+      let z = bytes-class a in
+      notes-by ∙ rw z (bytes-one m (bytesStop limit 0 (drop 2 rest)) (some-by C.Bytes z))
+
+  pub quote-report : (byte rest 0 ≡ 47 → ⊥) → (byte rest 0 ≡ 98 → ⊥) → quotes rest ≡ false → notesOf m limit rest ≡ stringNotes m rest
+  unfolding lexer.notesBy
+  quote-report a b c = notes-by ∙ rw (literal-class a b c)
 
   -- room for one report
-  pub one-room : (r : ℕ) → notesOf m limit (drop (p .offset) text) ≡ noteAtStart r ∷ [] → at + reportWidth ≤ room
-  one-room r e = omega (arith, q .fits, notes-length text (p .offset) (notesOf m limit (drop (p .offset) text)), ap length e)
-
-  -- any other class has none
-  pub no-report : (k : Class) → k ≡ classAt (drop (p .offset) text) → length (lexer.notesBy k m limit (drop (p .offset) text)) ≡ 0 → ⊥
-  no-report k e z = omega (arith, some-by k e)
+  pub one-room : (r : ℕ) → notesOf m limit rest ≡ noteAtStart r ∷ [] → at + reportWidth ≤ room
+  one-room r e = omega (arith, q .fits, notes-length text (p .offset) (notesOf m limit rest), ap length e)

@@ -14,7 +14,7 @@ use Rattle.lexeme.specs.declared.Lexeme.{Lexeme}
 use Rattle.lexeme.specs.declared.Mode.{Mode}
 use Rattle.scan.specs.Comment.{lexLineComment, lexBlockComment, blockNotes}
 use Rattle.scan.specs.Name.{lexIdent, lexDirective}
-use Rattle.scan.specs.Number.{lexSigned, lexUnsigned}
+use Rattle.scan.specs.Number.{lexNumber}
 use Rattle.scan.specs.Bytes.{lexBytes, bytesNotes}
 use Rattle.scan.specs.Other.{lexOther}
 use Rattle.strings.specs.Literal.{lexString, stringBytes, stringNotes}
@@ -40,9 +40,9 @@ classOf a b c =
     (pick (eqb a 58) (C.Single K.Colon)
     (pick (eqb a 44) (C.Single K.Comma)
     (pick (eqb a 64) C.Directive
-    (pick (eqb a 43) C.Signed
-    (pick (eqb a 45) C.Signed
-    (pick (isDigit a) C.Unsigned
+    (pick (eqb a 43) C.Number
+    (pick (eqb a 45) C.Number
+    (pick (isDigit a) C.Number
     (pick (isIdentStart a) C.Name C.Other))))))))))))))))))
 
 -- the class of what stands at the front of a list
@@ -59,8 +59,7 @@ lexBy C.Quote m limit s = lexString m s
 lexBy C.Bytes m limit s = lexBytes m limit s
 lexBy (C.Single k) m limit s = whole k 1
 lexBy C.Directive m limit s = lexDirective s
-lexBy C.Signed m limit s = lexSigned s
-lexBy C.Unsigned m limit s = lexUnsigned s
+lexBy C.Number m limit s = lexNumber s
 lexBy C.Name m limit s = lexIdent s
 lexBy C.Other m limit s = lexOther s
 
@@ -78,8 +77,7 @@ stringBy C.Quote m s = stringBytes m s
 stringBy C.Bytes m s = []
 stringBy (C.Single k) m s = []
 stringBy C.Directive m s = []
-stringBy C.Signed m s = []
-stringBy C.Unsigned m s = []
+stringBy C.Number m s = []
 stringBy C.Name m s = []
 stringBy C.Other m s = []
 
@@ -96,8 +94,7 @@ notesBy C.Quote m limit s = stringNotes m s
 notesBy C.Bytes m limit s = bytesNotes m limit s
 notesBy (C.Single k) m limit s = []
 notesBy C.Directive m limit s = []
-notesBy C.Signed m limit s = []
-notesBy C.Unsigned m limit s = []
+notesBy C.Number m limit s = []
 notesBy C.Name m limit s = []
 notesBy C.Other m limit s = []
 

@@ -1,5 +1,6 @@
 -- The next token from an offset of the text, with its places: document 01, "Places and records".
-use mathlib.Core.Bool.{Bool}
+use mathlib.Core.Path.{_≡_}
+use mathlib.Core.Bool.{Bool, true}
 use mathlib.Core.List.{List}
 use Prim.Native.Nat.{ℕ, _+_, _≤_, _<_}
 use lib.Dec.{eqb}
@@ -7,8 +8,8 @@ use lib.ListN.{length, drop}
 use Rattle.base.specs.Choice.{pick}
 use Rattle.base.specs.Classes.{isSpace}
 use Rattle.base.specs.Runs.{reach}
-use Rattle.token.specs.Kind.{kindNumber}
-use Rattle.token.specs.Place.{placeAt, Walkable}
+use Rattle.token.specs.Kind.{kindNumber, onOneLine}
+use Rattle.token.specs.Place.{placeAt, Flat, Walkable}
 use Rattle.token.specs.declared.place.Place.{Place}
 use Rattle.token.specs.declared.kind.TokenKind.{TokenKind}
 use Rattle.lexeme.specs.declared.Lexeme.{Lexeme}
@@ -53,6 +54,11 @@ tokenOf text f =
 
 unfoldable pub nextToken : Mode → ℕ → List ℕ → ℕ → Token
 nextToken m limit text at = tokenOf text (foundAt m limit text at)
+
+-- a place of the text at which a token of the kind starts, which has so many bytes
+pub record Ending (text : List ℕ) (start : Place) (kind : TokenKind) (len : ℕ) : Type 0 where
+  pub walkable : Walkable text start (start .offset + len)
+  pub flat : onOneLine kind ≡ true → Flat (drop (start .offset) text) len
 
 -- the kind's number is String's
 abbrev pub isString : TokenKind → Bool

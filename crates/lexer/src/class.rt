@@ -17,10 +17,8 @@ pub enum Class {
     // A token of one byte.
     Single(TokenKind),
     Directive,
-    // A sign.
-    Signed,
-    // A digit.
-    Unsigned,
+    // A sign or a digit.
+    Number,
     Name,
     Other,
 }
@@ -63,10 +61,10 @@ pub fn classify(a: u8, b: u8, c: u8) -> Class
         b':' => Class::Single(TokenKind::Colon),
         b',' => Class::Single(TokenKind::Comma),
         b'@' => Class::Directive,
-        b'+' | b'-' => Class::Signed,
+        b'+' | b'-' => Class::Number,
         _ => {
             if is_digit(a) {
-                return Class::Unsigned;
+                return Class::Number;
             }
             if is_ident_start(a) {
                 return Class::Name;

@@ -15,8 +15,7 @@ use scan::comment::lex_block_comment;
 use scan::comment::lex_line_comment;
 use scan::name::lex_directive;
 use scan::name::lex_ident;
-use scan::number::lex_signed;
-use scan::number::lex_unsigned;
+use scan::number::lex_number;
 use scan::other::lex_other;
 use strings::lex::lex_string;
 use token::kind::TokenKind;
@@ -36,8 +35,7 @@ fn lex_by(class: Class, s: &[u8], mode: Mode, limit: usize) -> Lexeme
         Class::Bytes => lex_bytes(s, mode, limit),
         Class::Single(kind) => whole(kind, 1),
         Class::Directive => lex_directive(s),
-        Class::Signed => lex_signed(s),
-        Class::Unsigned => lex_unsigned(s),
+        Class::Number => lex_number(s),
         Class::Name => lex_ident(s),
         Class::Other => lex_other(s),
     }

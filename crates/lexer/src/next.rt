@@ -4,8 +4,8 @@ ghost use Prim.Native.Nat.{_+_, _≤_, _<_};
 ghost use lib.Dec.{eqb};
 ghost use lib.ListN.{length};
 ghost use Rattle.base.specs.Choice.{pick};
-ghost use Rattle.token.specs.Place.{Walkable};
-ghost use Rattle.lexer.specs.Token.{startAt, foundAt, nextToken, stringSize};
+ghost use Rattle.token.specs.Place.{placeAt, Walkable};
+ghost use Rattle.lexer.specs.Token.{startAt, foundAt, Ending, nextToken, stringSize};
 use crate::lex::lex_one;
 use lexeme::Lexeme;
 use lexeme::Mode;
@@ -65,7 +65,35 @@ fn precision_at(start: usize, precision: usize, digits: usize) -> usize
     start + precision
 }
 
-// The token after a place of the text, with its places.
+// The place where a token of a kind and length ends. Only some kinds can have a newline; the walk gets and gives a place of its own, so that
+// the others' places stay in registers.
+fn end_place(text: &[u8], start: Place, kind: TokenKind, len: usize) -> Place
+    requires { ⌜ Ending (now text) start kind len ⌝ }
+    ensures { λ r. ⌜ r ≡ placeAt (now (text .entry)) (start .offset + len) ⌝ }
+{
+    let to = start.offset + len;
+    if kind.on_one_line() {
+        let column = start.column + len;
+        return Place {
+            offset: to,
+            line: start.line,
+            column,
+        };
+    }
+    let from = Place {
+        offset: start.offset,
+        line: start.line,
+        column: start.column,
+    };
+    let end = walk(text, from, to);
+    Place {
+        offset: end.offset,
+        line: end.line,
+        column: end.column,
+    }
+}
+
+// The token after a place of the text, with its places. Blanks have no newline.
 pub fn next_token(text: &[u8], place: Place, mode: Mode, limit: usize) -> Token
     requires { ⌜ Walkable (now text) place (place .offset) ⌝ }
     ensures { λ r. ⌜ r ≡ nextToken mode limit (now (text .entry)) (place .offset) ⌝ }
@@ -74,21 +102,29 @@ pub fn next_token(text: &[u8], place: Place, mode: Mode, limit: usize) -> Token
     let found = next_lexeme(text, at, mode, limit);
     let x = found.lexeme;
     let kind = x.kind;
-    let start = walk(text, place, found.start);
-    let end = walk(text, start, found.start + x.len);
-    let precision = precision_at(found.start, x.precision, x.digits);
+    let first = found.start;
+    let gap = first - at;
+    let column = place.column + gap;
+    let start = Place {
+        offset: first,
+        line: place.line,
+        column,
+    };
+    let end = end_place(text, start, kind, found.lexeme.len);
+    let precision = precision_at(first, found.lexeme.precision, found.lexeme.digits);
+    let value = first + found.lexeme.value;
     Token {
         kind,
-        reason: x.reason,
-        detail: x.detail,
+        reason: found.lexeme.reason,
+        detail: found.lexeme.detail,
         start,
         end,
-        value: found.start + x.value,
-        size: x.size,
+        value,
+        size: found.lexeme.size,
         precision,
-        digits: x.digits,
-        nanos: x.nanos,
-        reports: x.reports,
+        digits: found.lexeme.digits,
+        nanos: found.lexeme.nanos,
+        reports: found.lexeme.reports,
     }
 }
 

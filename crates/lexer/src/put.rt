@@ -10,8 +10,6 @@ ghost use Rattle.lexeme.specs.Reports.{notesNumbers};
 ghost use mathlib.Core.List.{[], _∷_};
 ghost use Rattle.lexer.specs.Lexer.{stringOf, notesOf};
 ghost use Rattle.lexer.specs.Token.{ReportRoom};
-use crate::class::Class;
-use crate::class::classify;
 use base::peek;
 use lexeme::Mode;
 use lexeme::put_report;
@@ -41,29 +39,27 @@ fn put_at_start(text: &[u8], start: Place, reason: usize, out: &mut [i64], at: u
     put_report(start, reason, 0, out, at);
 }
 
-// Writes the reports of the token that starts at a place of the text, of which there are some.
+// Writes the reports of the token that starts at a place of the text, of which there are some: an open block comment's, an open bytes literal's,
+// an open triple-quoted string's, or those of a string.
 pub fn put_reports(text: &[u8], start: Place, mode: Mode, limit: usize, out: &mut [i64], at: usize)
     requires { ⌜ ReportRoom mode limit (now text) start (length (now out)) at ⌝ }
     ensures { λ r. ⌜ now (out .exit) ≡ sets (now (out .entry)) at (notesNumbers (now (text .entry)) (start .offset) (notesOf mode limit (drop (start .offset) (now (text .entry))))) ⌝ }
 {
     let first = start.offset;
     let s = &text[first..];
-    let class = classify(peek(s, 0), peek(s, 1), peek(s, 2));
-    match class {
-        Class::BlockComment => put_at_start(text, start, 2, out, at),
-        Class::Triple => put_at_start(text, start, 12, out, at),
-        Class::Bytes => {
-            let reason = bytes_reason(s, limit);
-            put_at_start(text, start, reason, out, at);
-        }
-        Class::Quote => put_string_notes(text, start, mode, out, at),
-        Class::Newline => (),
-        Class::LineComment => (),
-        Class::Single(_) => (),
-        Class::Directive => (),
-        Class::Signed => (),
-        Class::Unsigned => (),
-        Class::Name => (),
-        Class::Other => (),
+    let a = peek(s, 0);
+    if a == b'/' {
+        put_at_start(text, start, 2, out, at);
+        return;
     }
+    if a == b'b' {
+        let reason = bytes_reason(s, limit);
+        put_at_start(text, start, reason, out, at);
+        return;
+    }
+    if at_quotes(s) {
+        put_at_start(text, start, 12, out, at);
+        return;
+    }
+    put_string_notes(text, start, mode, out, at);
 }

@@ -21,7 +21,7 @@ use Rattle.scan.specs.Run.{endsTimestamp, inRun, unitPiece}
 use Rattle.scan.specs.Comment.{lexLineComment, openEnd, bodyEnd, openComment, lexBlockComment, blockNotes}
 use Rattle.scan.specs.Name.{nameKind, lexIdent, directive, lexDirective}
 use Rattle.scan.specs.Bytes.{bytesStop, lexBytes, bytesNotes}
-use Rattle.scan.specs.Number.{precise, withPrecision, pastPoint, pastSign, pastExponent, lexFloat, pastFraction, atDurationUnit, durationBy, lexDuration, lexTail, lexUnsigned, atInf, lexMinus, lexSigned}
+use Rattle.scan.specs.Number.{precise, withPrecision, pastPoint, pastSign, pastExponent, pastFraction, atDurationUnit, durationBy, lexDuration, valueEnd, lexTail, lexDigits, atInf, lexNumber}
 use Rattle.scan.specs.Other.{lexOther}
 
 -- a token and its reports
@@ -44,11 +44,11 @@ row t w = told t [] w []
 abbrev pub cases : List Case
 cases =
     -- P `1.ms`: Float, then Ident
-    (row (lexUnsigned (49 ∷ 46 ∷ 109 ∷ 115 ∷ [])) (whole K.Float 2))
+    (row (lexNumber (49 ∷ 46 ∷ 109 ∷ 115 ∷ [])) (whole K.Float 2))
     -- P its rest
     ∷ (row (lexIdent (109 ∷ 115 ∷ [])) (whole K.Ident 2))
     -- P `1.5ms`
-    ∷ (row (lexUnsigned (49 ∷ 46 ∷ 53 ∷ 109 ∷ 115 ∷ [])) (durationBy (parsed.Nanos (pos 1500000)) 5))
+    ∷ (row (lexNumber (49 ∷ 46 ∷ 53 ∷ 109 ∷ 115 ∷ [])) (durationBy (parsed.Nanos (pos 1500000)) 5))
     -- P `/* a` strict
     ∷ (told (lexBlockComment Strict (47 ∷ 42 ∷ 32 ∷ 97 ∷ [])) (blockNotes Strict (47 ∷ 42 ∷ 32 ∷ 97 ∷ [])) (illegal 2 0 3) [])
     -- P its rest
@@ -56,11 +56,11 @@ cases =
     -- P `/* a` tolerant
     ∷ (told (lexBlockComment Tolerant (47 ∷ 42 ∷ 32 ∷ 97 ∷ [])) (blockNotes Tolerant (47 ∷ 42 ∷ 32 ∷ 97 ∷ [])) (extent K.Comment 4 0 4 1) (noteAtStart 2 ∷ []))
     -- P `-9223372036854775808ns`
-    ∷ (row (lexSigned (45 ∷ 57 ∷ 50 ∷ 50 ∷ 51 ∷ 51 ∷ 55 ∷ 50 ∷ 48 ∷ 51 ∷ 54 ∷ 56 ∷ 53 ∷ 52 ∷ 55 ∷ 55 ∷ 53 ∷ 56 ∷ 48 ∷ 56 ∷ 110 ∷ 115 ∷ [])) (durationBy (parsed.Nanos (negsuc 9223372036854775807)) 22))
+    ∷ (row (lexNumber (45 ∷ 57 ∷ 50 ∷ 50 ∷ 51 ∷ 51 ∷ 55 ∷ 50 ∷ 48 ∷ 51 ∷ 54 ∷ 56 ∷ 53 ∷ 52 ∷ 55 ∷ 55 ∷ 53 ∷ 56 ∷ 48 ∷ 56 ∷ 110 ∷ 115 ∷ [])) (durationBy (parsed.Nanos (negsuc 9223372036854775807)) 22))
     -- P without `-`
-    ∷ (row (lexUnsigned (57 ∷ 50 ∷ 50 ∷ 51 ∷ 51 ∷ 55 ∷ 50 ∷ 48 ∷ 51 ∷ 54 ∷ 56 ∷ 53 ∷ 52 ∷ 55 ∷ 55 ∷ 53 ∷ 56 ∷ 48 ∷ 56 ∷ 110 ∷ 115 ∷ [])) (illegal 18 0 21))
+    ∷ (row (lexNumber (57 ∷ 50 ∷ 50 ∷ 51 ∷ 51 ∷ 55 ∷ 50 ∷ 48 ∷ 51 ∷ 54 ∷ 56 ∷ 53 ∷ 52 ∷ 55 ∷ 55 ∷ 53 ∷ 56 ∷ 48 ∷ 56 ∷ 110 ∷ 115 ∷ [])) (illegal 18 0 21))
     -- P written twice
-    ∷ (row (lexUnsigned (57 ∷ 50 ∷ 50 ∷ 51 ∷ 51 ∷ 55 ∷ 50 ∷ 48 ∷ 51 ∷ 54 ∷ 56 ∷ 53 ∷ 52 ∷ 55 ∷ 55 ∷ 53 ∷ 56 ∷ 48 ∷ 56 ∷ 110 ∷ 115 ∷ 57 ∷ 50 ∷ 50 ∷ 51 ∷ 51 ∷ 55 ∷ 50 ∷ 48 ∷ 51 ∷ 54 ∷ 56 ∷ 53 ∷ 52 ∷ 55 ∷ 55 ∷ 53 ∷ 56 ∷ 48 ∷ 56 ∷ 110 ∷ 115 ∷ [])) (illegal 18 0 42))
+    ∷ (row (lexNumber (57 ∷ 50 ∷ 50 ∷ 51 ∷ 51 ∷ 55 ∷ 50 ∷ 48 ∷ 51 ∷ 54 ∷ 56 ∷ 53 ∷ 52 ∷ 55 ∷ 55 ∷ 53 ∷ 56 ∷ 48 ∷ 56 ∷ 110 ∷ 115 ∷ 57 ∷ 50 ∷ 50 ∷ 51 ∷ 51 ∷ 55 ∷ 50 ∷ 48 ∷ 51 ∷ 54 ∷ 56 ∷ 53 ∷ 52 ∷ 55 ∷ 55 ∷ 53 ∷ 56 ∷ 48 ∷ 56 ∷ 110 ∷ 115 ∷ [])) (illegal 18 0 42))
     -- P `b"AAAA"`, limit 3
     ∷ (told (lexBytes Strict 3 (98 ∷ 34 ∷ 65 ∷ 65 ∷ 65 ∷ 65 ∷ 34 ∷ [])) (bytesNotes Strict 3 (98 ∷ 34 ∷ 65 ∷ 65 ∷ 65 ∷ 65 ∷ 34 ∷ [])) (extent K.Bytes 7 2 4 0) [])
     -- P limit 2
@@ -68,43 +68,43 @@ cases =
     -- limit 2, tolerant
     ∷ (told (lexBytes Tolerant 2 (98 ∷ 34 ∷ 65 ∷ 65 ∷ 65 ∷ 65 ∷ 34 ∷ [])) (bytesNotes Tolerant 2 (98 ∷ 34 ∷ 65 ∷ 65 ∷ 65 ∷ 65 ∷ 34 ∷ [])) (illegal 13 0 6) [])
     -- P `2024-`
-    ∷ (row (lexUnsigned (50 ∷ 48 ∷ 50 ∷ 52 ∷ 45 ∷ [])) (whole K.Timestamp 5))
+    ∷ (row (lexNumber (50 ∷ 48 ∷ 50 ∷ 52 ∷ 45 ∷ [])) (whole K.Timestamp 5))
     -- P `-2024-`: Int, then Illegal 17
-    ∷ (row (lexSigned (45 ∷ 50 ∷ 48 ∷ 50 ∷ 52 ∷ 45 ∷ [])) (whole K.Int 5))
+    ∷ (row (lexNumber (45 ∷ 50 ∷ 48 ∷ 50 ∷ 52 ∷ 45 ∷ [])) (whole K.Int 5))
     -- P its rest
-    ∷ (row (lexSigned (45 ∷ [])) (illegal 17 0 1))
+    ∷ (row (lexNumber (45 ∷ [])) (illegal 17 0 1))
     -- P `12p3`
-    ∷ (row (lexUnsigned (49 ∷ 50 ∷ 112 ∷ 51 ∷ [])) (precise K.Int 2 4))
+    ∷ (row (lexNumber (49 ∷ 50 ∷ 112 ∷ 51 ∷ [])) (precise K.Int 2 4))
     -- P `12p`: Int, then Ident
-    ∷ (row (lexUnsigned (49 ∷ 50 ∷ 112 ∷ [])) (whole K.Int 2))
+    ∷ (row (lexNumber (49 ∷ 50 ∷ 112 ∷ [])) (whole K.Int 2))
     -- P its rest
     ∷ (row (lexIdent (112 ∷ [])) (whole K.Ident 1))
     -- `5μs` with U+03BC: Int, Illegal 1, Ident
-    ∷ (row (lexUnsigned (53 ∷ 206 ∷ 188 ∷ 115 ∷ [])) (whole K.Int 1))
+    ∷ (row (lexNumber (53 ∷ 206 ∷ 188 ∷ 115 ∷ [])) (whole K.Int 1))
     -- its rest
     ∷ (row (lexOther (206 ∷ 188 ∷ 115 ∷ [])) (illegal 1 956 2))
     -- and the rest of that
     ∷ (row (lexIdent (115 ∷ [])) (whole K.Ident 1))
     -- `5µs` with U+00B5, and a blank
-    ∷ (row (lexUnsigned (53 ∷ 194 ∷ 181 ∷ 115 ∷ 32 ∷ [])) (durationBy (parsed.Nanos (pos 5000)) 4))
+    ∷ (row (lexNumber (53 ∷ 194 ∷ 181 ∷ 115 ∷ 32 ∷ [])) (durationBy (parsed.Nanos (pos 5000)) 4))
     -- `5min`
-    ∷ (row (lexUnsigned (53 ∷ 109 ∷ 105 ∷ 110 ∷ [])) (illegal 18 0 4))
+    ∷ (row (lexNumber (53 ∷ 109 ∷ 105 ∷ 110 ∷ [])) (illegal 18 0 4))
     -- `1..2`
-    ∷ (row (lexUnsigned (49 ∷ 46 ∷ 46 ∷ 50 ∷ [])) (whole K.Float 2))
+    ∷ (row (lexNumber (49 ∷ 46 ∷ 46 ∷ 50 ∷ [])) (whole K.Float 2))
     -- `1e`
-    ∷ (row (lexUnsigned (49 ∷ 101 ∷ [])) (whole K.Float 2))
+    ∷ (row (lexNumber (49 ∷ 101 ∷ [])) (whole K.Float 2))
     -- `1.5e-3p20`
-    ∷ (row (lexUnsigned (49 ∷ 46 ∷ 53 ∷ 101 ∷ 45 ∷ 51 ∷ 112 ∷ 50 ∷ 48 ∷ [])) (precise K.Float 6 9))
+    ∷ (row (lexNumber (49 ∷ 46 ∷ 53 ∷ 101 ∷ 45 ∷ 51 ∷ 112 ∷ 50 ∷ 48 ∷ [])) (precise K.Float 6 9))
     -- `2024-01//`
-    ∷ (row (lexUnsigned (50 ∷ 48 ∷ 50 ∷ 52 ∷ 45 ∷ 48 ∷ 49 ∷ 47 ∷ 47 ∷ [])) (whole K.Timestamp 7))
+    ∷ (row (lexNumber (50 ∷ 48 ∷ 50 ∷ 52 ∷ 45 ∷ 48 ∷ 49 ∷ 47 ∷ 47 ∷ [])) (whole K.Timestamp 7))
     -- `2024-é)`
-    ∷ (row (lexUnsigned (50 ∷ 48 ∷ 50 ∷ 52 ∷ 45 ∷ 195 ∷ 169 ∷ 41 ∷ [])) (whole K.Timestamp 7))
+    ∷ (row (lexNumber (50 ∷ 48 ∷ 50 ∷ 52 ∷ 45 ∷ 195 ∷ 169 ∷ 41 ∷ [])) (whole K.Timestamp 7))
     -- `+inf`
-    ∷ (row (lexSigned (43 ∷ 105 ∷ 110 ∷ 102 ∷ [])) (whole K.Float 4))
+    ∷ (row (lexNumber (43 ∷ 105 ∷ 110 ∷ 102 ∷ [])) (whole K.Float 4))
     -- `-infx`
-    ∷ (row (lexSigned (45 ∷ 105 ∷ 110 ∷ 102 ∷ 120 ∷ [])) (illegal 17 0 1))
+    ∷ (row (lexNumber (45 ∷ 105 ∷ 110 ∷ 102 ∷ 120 ∷ [])) (illegal 17 0 1))
     -- `+1`
-    ∷ (row (lexSigned (43 ∷ 49 ∷ [])) (illegal 16 0 1))
+    ∷ (row (lexNumber (43 ∷ 49 ∷ [])) (illegal 16 0 1))
     -- a line comment
     ∷ (row (lexLineComment (35 ∷ 32 ∷ 97 ∷ 10 ∷ [])) (whole K.Comment 3))
     -- a closed comment
@@ -138,5 +138,5 @@ cases =
     ∷ []
 
 pub worked : map (λ (c : Case). c .found) cases ≡ map (λ (c : Case). c .want) cases
-unfolding sameBytes isDigit isLowerAlpha isIdentStart isIdentPart isDurationUnit isSpace runs.run runs.reach runs.walk runs.past utf8-char charSize isTail charEnd codeBits decodeOf scaleOf productOf nanosOf addDigit readDigits fracOf fractionNanos units unitOf valueFrom wholeEnd hasPoint fractionStart fractionEnd unitEnd wholeOf partUnit partFraction digitless partOf sumFrom finish unsigned parseOf mul div ofInt toUnsigned endsTimestamp inRun unitPiece lexLineComment openEnd bodyEnd openComment lexBlockComment blockNotes nameKind lexIdent directive lexDirective bytesStop lexBytes bytesNotes withPrecision pastPoint pastSign pastExponent lexFloat pastFraction atDurationUnit lexDuration lexTail lexUnsigned atInf lexMinus lexSigned lexOther
+unfolding sameBytes isDigit isLowerAlpha isIdentStart isIdentPart isDurationUnit isSpace runs.run runs.reach runs.walk runs.past utf8-char charSize isTail charEnd codeBits decodeOf scaleOf productOf nanosOf addDigit readDigits fracOf fractionNanos units unitOf valueFrom wholeEnd hasPoint fractionStart fractionEnd unitEnd wholeOf partUnit partFraction digitless partOf sumFrom finish unsigned parseOf mul div ofInt toUnsigned endsTimestamp inRun unitPiece lexLineComment openEnd bodyEnd openComment lexBlockComment blockNotes nameKind lexIdent directive lexDirective bytesStop lexBytes bytesNotes withPrecision pastPoint pastSign pastExponent pastFraction atDurationUnit lexDuration valueEnd lexTail lexDigits atInf lexNumber lexOther
 worked = refl

@@ -1,3 +1,4 @@
+pub mod Flats
 pub mod Runs
 mod Surely
 pub mod Stops

@@ -1,14 +1,16 @@
--- Numbers, timestamps and durations are within the text and end between characters; a Duration's run is one that `parse` accepts. Assumes nothing.
+-- Numbers, timestamps and durations are within the text, end between characters and stay on their line; a Duration's run is one that `parse`
+-- accepts. Assumes nothing.
 use mathlib.Core.Path.{_≡_, refl, ap, _∙_}
 use mathlib.Core.Bool.{Bool, true, false, not, _&&_, _||_}
 use mathlib.Core.List.{List, [], _∷_}
 use Prim.Native.Nat.{ℕ, _+_, _-_, _≤_, _<_, zero-le}
 use native.Mathlib.Omega.{arith}
-use borrow.Author.Tests.{eqb-true}
+use borrow.Author.Tests.{eqb-true, not-false}
 use lib.Dec.{ltb, eqb}
 use lib.IntN.{ℤ, pos}
 use lib.ListN.{length, take}
 use lib.Seq.{getD-take, length-take-le}
+use Rattle.base.specs.Choice.{pick}
 use Rattle.base.specs.Bytes.{byte, sameBytes}
 use Rattle.base.specs.Classes.{isDigit, isLowerAlpha, isIdentPart, isDurationUnit}
 use Rattle.base.specs.Runs.{reach, past}
@@ -16,28 +18,31 @@ use Rattle.base.proofs.Reaches.{reach-ge, reach-one}
 use Rattle.base.proofs.Walks.{past-ge}
 use Rattle.base.proofs.Tests.{and-left, and-right, or-case, pick-case, true-false, in-text}
 use Rattle.token.specs.Kind.{kindNumber}
+use Rattle.token.specs.Place.{Flat}
 use Rattle.token.specs.declared.kind.TokenKind.the-variants as K
 use Rattle.token.specs.declared.kind.TokenKind.{TokenKind}
-use Rattle.lexeme.specs.Lexeme.{whole}
+use Rattle.lexeme.specs.Lexeme.{illegal}
 use Rattle.lexeme.proofs.Within.{Within}
 use Rattle.go_duration.specs.Parse.{unsigned, parseOf}
 use Rattle.go_duration.specs.declared.parse.Parsed.the-variants as parsed
 use Rattle.go_duration.specs.declared.parse.Parsed.{Parsed}
 use Rattle.go_duration.proofs.Durations.{sent-digit, sent-minus}
 use Rattle.scan.specs.Run.{inRun, unitPiece}
-use Rattle.scan.specs.Number.{precise, withPrecision, pastPoint, pastExponent, lexFloat, pastFraction, atDurationUnit, durationBy, lexDuration, goesOnFloat, lexTail, lexUnsigned, atInf, lexMinus, lexSigned}
+use Rattle.scan.specs.Number.{precise, withPrecision, pastFraction, atDurationUnit, durationBy, lexDuration, goesOnFloat, numberKind, valueEnd, lexTail, lexDigits, atInf, isSign, lexNumber}
 use Rattle.scan.specs.declared.run.Run.the-variants as run
+use Rattle.scan.proofs.Flats.{flat-none}
 use Rattle.scan.proofs.Runs.{oneByte, micro, micro-in, one-turn, micro-turn}
-use Rattle.scan.proofs.Goes.{Goes, goes-then, goes-run, goes-units, goes-byte, goes-over, either-high, goes-point, goes-fraction, goes-exponent}
-use Rattle.scan.proofs.Scanned.{Plain, plain, Scanned, Ends, whole-scanned, illegal-scanned}
-
-int : Plain K.Int
-unfolding kindNumber
-int = plain K.Int refl
+use Rattle.scan.proofs.Goes.{Goes, goes-none, goes-then, goes-digits, goes-stamp, goes-units, goes-byte, goes-over, either-high, goes-fraction, goes-value}
+use Rattle.scan.proofs.Scanned.{Plain, plain, Scanned, OnLine, Ends, whole-scanned, illegal-scanned}
 
 float : Plain K.Float
 unfolding kindNumber
 float = plain K.Float refl
+
+number-plain : (x : Bool) → Plain (numberKind x)
+unfolding kindNumber
+number-plain true = float
+number-plain false = plain K.Int refl
 
 stamp : Plain K.Timestamp
 unfolding kindNumber
@@ -123,24 +128,16 @@ module _ (s : List ℕ) where
       }
 
   -- a number that ends at e, before its precision
-  precision-scanned : (k : TokenKind) (e : ℕ) → Plain k → 0 < e → Goes s 0 e → Scanned s (withPrecision k s e)
+  precision-on-line : (k : TokenKind) (e : ℕ) → Plain k → 0 < e → Goes s 0 e → OnLine s (withPrecision k s e)
   unfolding withPrecision
-  precision-scanned k e p h g =
+  precision-on-line k e p h g =
       let n = reach (inRun run.Digits) s (e + 1) in
       let l = reach-ge (inRun run.Digits) s (e + 1) in
-      pick-case (Scanned s) (eqb (byte s e) 112 && isDigit (byte s (e + 1)))
-      (λ q. precise-scanned k e n p l
-      (ends-at n (omega arith)
-      (goes-then s g
-      (goes-then s (goes-over s 112 (omega arith) (omega arith) e (and-left (eqb (byte s e) 112) (isDigit (byte s (e + 1))) q))
-      (goes-run s run.Digits (e + 1))))))
-      (λ q. whole-scanned s e (ends-at e h g) k p)
-
-  float-scanned : (f : ℕ) → 0 < f → Goes s 0 f → Scanned s (lexFloat s f)
-  unfolding lexFloat
-  float-scanned f h g =
-      let e = goes-then s (goes-point s f) (goes-exponent s (pastPoint s f)) in
-      precision-scanned K.Float (pastExponent s (pastPoint s f)) float (omega (arith, e .ge)) (goes-then s g e)
+      pick-case (OnLine s) (eqb (byte s e) 112 && isDigit (byte s (e + 1)))
+      (λ q. let d = goes-then s g
+      (goes-then s (goes-over s 112 (omega arith) (omega arith) e (and-left (eqb (byte s e) 112) (isDigit (byte s (e + 1))) q)) (goes-digits s (e + 1))) in
+      record { scanned = precise-scanned k e n p l (ends-at n (omega arith) d); flat = d .flat (flat-none s) })
+      (λ q. record { scanned = whole-scanned s e (ends-at e h g) k p; flat = g .flat (flat-none s) })
 
   -- the run of a duration, n bytes with a unit after the digits
   module _ (f n : ℕ) (b : Begins s f) (l : f < n) (h : n ≤ length s) where
@@ -162,7 +159,7 @@ module _ (s : List ℕ) where
         go (digit e q) = rw e
         go (minus e q) = rw e
 
-    pub duration-run : (p : Parsed) → parseOf (take n s) ≡ p → Ends s n → Scanned s (durationBy p n)
+    duration-run : (p : Parsed) → parseOf (take n s) ≡ p → Ends s n → Scanned s (durationBy p n)
     unfolding kindNumber
     duration-run (parsed.Nanos z) e g =
         record {
@@ -174,65 +171,77 @@ module _ (s : List ℕ) where
         }
     duration-run parsed.Bad e g = illegal-scanned s n g 18 0 (omega arith) (omega arith)
 
-  -- a number whose digits end at n and whose fraction ends at f
-  pub tail-scanned : (n f : ℕ) → Begins s f → Goes s 0 f → Scanned s (lexTail s n f)
-  unfolding lexTail lexDuration
-  tail-scanned n f b g =
-      let u = goes-then s g (goes-units s f) in
-      pick-case (Scanned s) (atDurationUnit (byte s f) (byte s (f + 1)))
-      (λ e. let l = unit-more s f e in duration-run f (past unitPiece s f) b l (u .le zero-le) _ refl (ends-at (past unitPiece s f) (omega arith) u))
-      (λ e. pick-case (Scanned s) (ltb n f || goesOnFloat (byte s f)) (λ q. float-scanned f (begins-some b) g)
-      (λ q. precision-scanned K.Int f int (begins-some b) g))
+  duration-flat : (p : Parsed) (n : ℕ) → Flat s n → Flat s (durationBy p n .len)
+  duration-flat (parsed.Nanos z) n f = f
+  duration-flat parsed.Bad n f = f
 
-  pub unsigned-scanned : isDigit (byte s 0) ≡ true → Scanned s (lexUnsigned s)
-  unfolding lexUnsigned inRun
-  unsigned-scanned e =
-      let n = reach (inRun run.Digits) s 0 in
-      let l = reach-one (inRun run.Digits) s 0 (in-text isDigit s 0 no-digit e) e in
-      let g = goes-run s run.Digits 0 in
-      let t = goes-then s g (goes-run s run.Stamp n) in
+  -- a number whose digits end at n and whose fraction ends at f
+  tail-on-line : (n f : ℕ) → Begins s f → Goes s 0 f → OnLine s (lexTail s n f)
+  unfolding lexTail lexDuration
+  tail-on-line n f b g =
+      let u = goes-then s g (goes-units s f) in
+      let x = ltb n f || goesOnFloat (byte s f) in
+      let v = goes-value s f x in
+      pick-case (OnLine s) (atDurationUnit (byte s f) (byte s (f + 1)))
+      (λ e. let l = unit-more s f e in
+      record {
+        scanned = duration-run f (past unitPiece s f) b l (u .le zero-le) _ refl (ends-at (past unitPiece s f) (omega arith) u);
+        flat = duration-flat (parseOf (take (past unitPiece s f) s)) (past unitPiece s f) (u .flat (flat-none s));
+      })
+      (λ e. precision-on-line (numberKind x) (valueEnd s f x) (number-plain x) (omega (arith, begins-some b, v .ge)) (goes-then s g v))
+
+  -- the digits from i on, where there is one
+  digits-on-line : (i : ℕ) → Goes s 0 i → isDigit (byte s i) ≡ true → ((f : ℕ) → i < f → Begins s f) → OnLine s (lexDigits s i)
+  unfolding lexDigits inRun
+  digits-on-line i h e b =
+      let n = reach (inRun run.Digits) s i in
+      let l = reach-one (inRun run.Digits) s i (in-text isDigit s i no-digit e) e in
+      let g = goes-then s h (goes-digits s i) in
+      let t = goes-then s g (goes-stamp s n) in
       let f = goes-fraction s n in
-      pick-case (Scanned s) (eqb n 4 && eqb (byte s n) 45)
-      (λ q. whole-scanned s _ (ends-at _ (omega (arith, reach-ge (inRun run.Stamp) s n)) t) K.Timestamp stamp)
-      (λ q. tail-scanned n (pastFraction s n) (digit e (omega (arith, f .ge))) (goes-then s g f))
+      pick-case (OnLine s) ((eqb i 0 && eqb n 4) && eqb (byte s n) 45)
+      (λ q. record {
+        scanned = whole-scanned s _ (ends-at _ (omega (arith, reach-ge (inRun run.Stamp) s n)) t) K.Timestamp stamp;
+        flat = t .flat (flat-none s);
+      })
+      (λ q. tail-on-line n (pastFraction s n) (b (pastFraction s n) (omega (arith, f .ge))) (goes-then s g f))
 
   -- the byte at the front is a sign
-  module _ (e : eqb (byte s 0) 43 || eqb (byte s 0) 45 ≡ true) where
+  module _ (e : isSign (byte s 0) ≡ true) where
     sign : Goes s 0 1
-    sign = goes-byte s (λ a. eqb a 43 || eqb a 45) refl (either-high 43 45 (omega arith) (omega arith)) 0 e
+    sign = goes-byte s isSign refl refl (either-high 43 45 (omega arith) (omega arith)) 0 e
 
-    inf-scanned : atInf s ≡ true → Scanned s (whole K.Float 4)
+    inf-goes : atInf s ≡ true → Goes s 0 4
     unfolding atInf
-    inf-scanned q =
+    inf-goes q =
         let x : Bool = eqb (byte s 1) 105 in
         let y : Bool = eqb (byte s 2) 110 in
         let z : Bool = eqb (byte s 3) 102 in
         let word = and-left ((x && y) && z) (not (isIdentPart (byte s 4))) q in
         let two = and-left (x && y) z word in
-        whole-scanned s 4
-        (ends-at 4 (omega arith)
-        (goes-then s sign
+        goes-then s sign
         (goes-then s (goes-over s 105 (omega arith) (omega arith) 1 (and-left x y two))
         (goes-then s (goes-over s 110 (omega arith) (omega arith) 2 (and-right x y two))
-        (goes-over s 102 (omega arith) (omega arith) 3 (and-right (x && y) z word))))))
-        K.Float float
+        (goes-over s 102 (omega arith) (omega arith) 3 (and-right (x && y) z word))))
 
-    minus-scanned : byte s 0 ≡ 45 → Scanned s (lexMinus s)
-    unfolding lexMinus inRun
-    minus-scanned m =
-        let n = reach (inRun run.Digits) s 1 in
-        let g = goes-then s sign (goes-run s run.Digits 1) in
-        let f = goes-fraction s n in
-        pick-case (Scanned s) (isDigit (byte s 1))
-        (λ d. let l = reach-one (inRun run.Digits) s 1 (in-text isDigit s 1 no-digit d) d in
-        tail-scanned n (pastFraction s n) (minus m (omega (arith, f .ge))) (goes-then s g f))
-        (λ d. illegal-scanned s 1 (ends-at 1 (omega arith) sign) 17 0 (omega arith) (omega arith))
+    sign-on-line : (reason : ℕ) → reason ≤ 18 → OnLine s (illegal reason 0 1)
+    sign-on-line reason h = record { scanned = illegal-scanned s 1 (ends-at 1 (omega arith) sign) reason 0 h (omega arith); flat = sign .flat (flat-none s) }
 
-    pub signed-scanned : Scanned s (lexSigned s)
-    unfolding lexSigned
-    signed-scanned =
-        let p : Bool = eqb (byte s 0) 43 in
-        let m : Bool = eqb (byte s 0) 45 in
-        pick-case (Scanned s) (atInf s) inf-scanned
-        (λ i. pick-case (Scanned s) p (λ q. illegal-scanned s 1 (ends-at 1 (omega arith) sign) 16 0 (omega arith) (omega arith))
-        (λ q. minus-scanned (eqb-true (byte s 0) 45 (or-case p m e (λ t. true-false p t q) (λ t. t)))))
+  -- the byte at the front is a sign or a digit
+  pub number-on-line : isSign (byte s 0) || isDigit (byte s 0) ≡ true → OnLine s (lexNumber s)
+  unfolding lexNumber isDigit
+  number-on-line e =
+      let p : Bool = eqb (byte s 0) 43 in
+      let m : Bool = eqb (byte s 0) 45 in
+      let d : Bool = isDigit (byte s 1) in
+      pick-case (OnLine s) (isSign (byte s 0) && atInf s)
+      (λ q. let g = inf-goes (and-left (isSign (byte s 0)) (atInf s) q) (and-right (isSign (byte s 0)) (atInf s) q) in
+      record { scanned = whole-scanned s 4 (ends-at 4 (omega arith) g) K.Float float; flat = g .flat (flat-none s) })
+      (λ _. pick-case (OnLine s) p (λ q. sign-on-line (rw q) 16 (omega arith))
+      (λ q. pick-case (OnLine s) (m && not d) (λ r. sign-on-line (rw (q, and-left m (not d) r)) 17 (omega arith)) (λ r. go m refl q r)))
+    where
+      go : (x : Bool) → eqb (byte s 0) 45 ≡ x → eqb (byte s 0) 43 ≡ false → x && not (isDigit (byte s 1)) ≡ false → OnLine s (lexDigits s (pick x 1 0))
+      go true t q r = digits-on-line 1 (sign (rw (q, t))) (not-false (isDigit (byte s 1)) r) (λ f h. minus (eqb-true (byte s 0) 45 t) h)
+      go false t q r =
+          let u : isDigit (byte s 0) ≡ true = rw (q, t) at e in
+          digits-on-line 0 (goes-none s 0) u (λ f h. digit u h)

@@ -16,12 +16,14 @@ use Rattle.base.specs.Classes.{isDigit, isLowerAlpha, isIdentStart, isIdentPart
 use Rattle.base.specs.Runs.{reach, past}
 use Rattle.base.proofs.Tests.{and-left, and-right, true-false, under, over, in-text}
 use Rattle.base.proofs.Walks.{past-step, past-stop, past-end}
+use Rattle.token.specs.Place.{Flat}
 use Rattle.utf8.specs.Grammar.{charSize, Boundary}
 use Rattle.utf8.specs.Check.{isTail}
 use Rattle.utf8.proofs.Boundaries.{boundary-le, next-boundary, ascii-boundary, reach-boundary, stop-boundary}
 use Rattle.scan.specs.Run.{endsTimestamp, inRun, unitPiece}
 use Rattle.scan.specs.declared.run.Run.the-variants as run
 use Rattle.scan.specs.declared.run.Run.{Run}
+use Rattle.scan.proofs.Flats.{flat-byte}
 
 -- a piece of one byte, and the two bytes of U+00B5, by an index into the text
 abbrev pub oneByte : List ℕ → ℕ → Bool
@@ -135,22 +137,42 @@ micro-size s i e =
     let b = eqb-true (byte s (i + 1)) 0xB5 (and-right (eqb (byte s i) 0xC2) (eqb (byte s (i + 1)) 0xB5) e) in
     rw (micro-cut s i (micro-in s i e) a (rw (add-one i) at b))
 
--- a duration's pieces from a boundary end at one; n bounds the bytes that are left
-units-from : (s : List ℕ) (n i : ℕ) → length s ≤ i + n → Boundary s i → Boundary s (past unitPiece s i)
-units-from s zero i h b = rw (past-end unitPiece s i (omega arith)) b
-units-from s (suc n) i h b =
-    go (ltb i (length s)) (oneByte s i) (micro s i) refl refl refl (λ c. units-from s n (i + 1) (omega arith) c) (λ c. units-from s n (i + 2) (omega arith) c)
-  where
-    go : (x y z : Bool) → ltb i (length s) ≡ x → oneByte s i ≡ y → micro s i ≡ z → (Boundary s (i + 1) → Boundary s (past unitPiece s (i + 1)))
-        → (Boundary s (i + 2) → Boundary s (past unitPiece s (i + 2))) → Boundary s (past unitPiece s i)
-    go false y z p q r one two = rw (past-end unitPiece s i (ltb-false i (length s) p)) b
-    go true true z p q r one two =
-        let l = ltb-true i (length s) p in
-        let t = ltb-true (byte s i) 0x80 (low (λ a. (isDigit a || isLowerAlpha a) || (eqb a 46 && isDigit (byte s (i + 1)))) (piece-high (byte s (i + 1))) (byte s i) q) in
-        rw (← one-turn s i l q) (one (ascii-boundary s i l t b))
-    go true false true p q r one two =
-        rw (← micro-turn s i (ltb-true i (length s) p) q r) (two (next-boundary s i 1 (micro-size s i r) b))
-    go true false false p q r one two = rw (piece-stop s i (ltb-true i (length s) p) q r) b
+-- what each piece of a duration keeps, all of them keep; n bounds the bytes that are left
+module _ (s : List ℕ) (P : ℕ → Type 0) (one : (i : ℕ) → i < length s → oneByte s i ≡ true → P i → P (i + 1)) (two : (i : ℕ) → micro s i ≡ true → P i → P (i + 2)) where
+  pub units-from : (n i : ℕ) → length s ≤ i + n → P i → P (past unitPiece s i)
+  units-from zero i h b = rw (past-end unitPiece s i (omega arith)) b
+  units-from (suc n) i h b =
+      go (ltb i (length s)) (oneByte s i) (micro s i) refl refl refl (λ c. units-from n (i + 1) (omega arith) c) (λ c. units-from n (i + 2) (omega arith) c)
+    where
+      go : (x y z : Bool) → ltb i (length s) ≡ x → oneByte s i ≡ y → micro s i ≡ z → (P (i + 1) → P (past unitPiece s (i + 1)))
+          → (P (i + 2) → P (past unitPiece s (i + 2))) → P (past unitPiece s i)
+      go false y z p q r f g = rw (past-end unitPiece s i (ltb-false i (length s) p)) b
+      go true true z p q r f g =
+          let l = ltb-true i (length s) p in
+          rw (← one-turn s i l q) (f (one i l q b))
+      go true false true p q r f g = rw (← micro-turn s i (ltb-true i (length s) p) q r) (g (two i r b))
+      go true false false p q r f g = rw (piece-stop s i (ltb-true i (length s) p) q r) b
 
+-- a duration's pieces from a boundary end at one
 pub units-boundary : (s : List ℕ) (i : ℕ) → Boundary s i → Boundary s (past unitPiece s i)
-units-boundary s i b = units-from s (length s) i (omega arith) b
+units-boundary s i b = units-from s (Boundary s) one (λ k r. next-boundary s k 1 (micro-size s k r)) (length s) i (omega arith) b
+  where
+    one : (k : ℕ) → k < length s → oneByte s k ≡ true → Boundary s k → Boundary s (k + 1)
+    one k l q =
+        ascii-boundary s k l
+        (ltb-true (byte s k) 0x80 (low (λ a. (isDigit a || isLowerAlpha a) || (eqb a 46 && isDigit (byte s (k + 1)))) (piece-high (byte s (k + 1))) (byte s k) q))
+
+-- and they stay on the line
+pub units-flat : (s : List ℕ) (i : ℕ) → Flat s i → Flat s (past unitPiece s i)
+unfolding isDigit isLowerAlpha
+units-flat s i f = units-from s (Flat s) one two (length s) i (omega arith) f
+  where
+    one : (k : ℕ) → k < length s → oneByte s k ≡ true → Flat s k → Flat s (k + 1)
+    one k l q = flat-byte s (λ a. (isDigit a || isLowerAlpha a) || (eqb a 46 && isDigit (byte s (k + 1)))) refl k q
+
+    two : (k : ℕ) → micro s k ≡ true → Flat s k → Flat s (k + 2)
+    two k r g =
+        let x : Bool = eqb (byte s k) 0xC2 in
+        let y : Bool = eqb (byte s (k + 1)) 0xB5 in
+        let z : k + 1 + 1 ≡ k + 2 = omega arith in
+        rw z at (flat-byte s (λ a. eqb a 0xB5) refl (k + 1) (and-right x y r) (flat-byte s (λ a. eqb a 0xC2) refl k (and-left x y r) g))

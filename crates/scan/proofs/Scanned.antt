@@ -11,6 +11,7 @@ use Rattle.base.specs.Bytes.{byte, sameBytes}
 use Rattle.base.specs.Classes.{isDigit}
 use Rattle.base.proofs.Tests.{true-false}
 use Rattle.token.specs.Kind.{kindNumber}
+use Rattle.token.specs.Place.{Flat}
 use Rattle.token.specs.declared.kind.TokenKind.the-variants as K
 use Rattle.token.specs.declared.kind.TokenKind.{TokenKind}
 use Rattle.lexeme.specs.Lexeme.{extent, whole, illegal}
@@ -49,6 +50,11 @@ pub record Scanned (s : List ℕ) (r : Lexeme) : Type 0 where
   pub not-string : r .kind ≡ K.String → ⊥
   pub boundary : Boundary s 0 → Boundary s (r .len)
   pub duration : r .kind ≡ K.Duration → DurationRun s r
+
+-- a token that stays on its line too
+pub record OnLine (s : List ℕ) (r : Lexeme) : Type 0 where
+  pub scanned : Scanned s r
+  pub flat : Flat s (r .len)
 
 -- an end of a token
 pub record Ends (s : List ℕ) (n : ℕ) : Type 0 where

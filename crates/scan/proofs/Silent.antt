@@ -1,10 +1,11 @@
 -- Names, directives, numbers and unexpected characters make no report. By cases on the tests of each definition. Assumes nothing.
 use mathlib.Core.Path.{_≡_, refl}
-use mathlib.Core.Bool.{_&&_, _||_}
+use mathlib.Core.Bool.{not, _&&_, _||_}
 use mathlib.Core.List.{List}
 use Prim.Native.Nat.{ℕ, _+_, _-_}
 use lib.Dec.{ltb, eqb}
 use lib.ListN.{take, drop}
+use Rattle.base.specs.Choice.{pick}
 use Rattle.base.specs.Bytes.{byte, sameBytes}
 use Rattle.base.specs.Classes.{isDigit}
 use Rattle.base.specs.Runs.{reach, past}
@@ -18,7 +19,7 @@ use Rattle.lexeme.specs.declared.Lexeme.{Lexeme}
 use Rattle.scan.specs.Run.{inRun, unitPiece}
 use Rattle.scan.specs.Comment.{lexLineComment}
 use Rattle.scan.specs.Name.{typeWord, datasetWord, protoWord, lexIdent, directive, lexDirective}
-use Rattle.scan.specs.Number.{withPrecision, lexFloat, pastPoint, pastExponent, pastFraction, atDurationUnit, durationBy, lexDuration, goesOnFloat, lexTail, lexUnsigned, atInf, lexMinus, lexSigned}
+use Rattle.scan.specs.Number.{withPrecision, pastFraction, atDurationUnit, durationBy, lexDuration, goesOnFloat, numberKind, valueEnd, lexTail, lexDigits, atInf, isSign, lexNumber}
 use Rattle.scan.specs.Other.{lexOther}
 use Rattle.scan.specs.declared.run.Run.the-variants as run
 
@@ -59,23 +60,22 @@ module _ (s : List ℕ) where
   duration-silent parsed.Bad n = refl
 
   tail-silent : (n f : ℕ) → lexTail s n f .reports ≡ 0
-  unfolding lexTail lexDuration lexFloat
+  unfolding lexTail lexDuration
   tail-silent n f =
+      let float = ltb n f || goesOnFloat (byte s f) in
       pick-case Silent (atDurationUnit (byte s f) (byte s (f + 1)))
       (λ _. duration-silent (parseOf (take (past unitPiece s f) s)) (past unitPiece s f))
-      (λ _. pick-case Silent (ltb n f || goesOnFloat (byte s f)) (λ _. precision-silent K.Float (pastExponent s (pastPoint s f)))
-      (λ _. precision-silent K.Int f))
+      (λ _. precision-silent (numberKind float) (valueEnd s f float))
 
-  pub unsigned-silent : lexUnsigned s .reports ≡ 0
-  unfolding lexUnsigned
-  unsigned-silent =
-      let n = reach (inRun run.Digits) s 0 in
-      pick-case Silent (eqb n 4 && eqb (byte s n) 45) (λ _. refl) (λ _. tail-silent n (pastFraction s n))
+  digits-silent : (i : ℕ) → lexDigits s i .reports ≡ 0
+  unfolding lexDigits
+  digits-silent i =
+      let n = reach (inRun run.Digits) s i in
+      pick-case Silent ((eqb i 0 && eqb n 4) && eqb (byte s n) 45) (λ _. refl) (λ _. tail-silent n (pastFraction s n))
 
-  pub signed-silent : lexSigned s .reports ≡ 0
-  unfolding lexSigned lexMinus
-  signed-silent =
-      let n = reach (inRun run.Digits) s 1 in
-      pick-case Silent (atInf s) (λ _. refl)
+  pub number-silent : lexNumber s .reports ≡ 0
+  unfolding lexNumber
+  number-silent =
+      pick-case Silent (isSign (byte s 0) && atInf s) (λ _. refl)
       (λ _. pick-case Silent (eqb (byte s 0) 43) (λ _. refl)
-      (λ _. pick-case Silent (isDigit (byte s 1)) (λ _. tail-silent n (pastFraction s n)) (λ _. refl)))
+      (λ _. pick-case Silent (eqb (byte s 0) 45 && not (isDigit (byte s 1))) (λ _. refl) (λ _. digits-silent (pick (eqb (byte s 0) 45) 1 0))))

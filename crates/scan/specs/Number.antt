@@ -41,10 +41,6 @@ pastSign s i = pick (eqb (byte s i) 43 || eqb (byte s i) 45) (i + 1) i
 unfoldable pub pastExponent : List ℕ → ℕ → ℕ
 pastExponent s i = pick (eqb (byte s i) 101 || eqb (byte s i) 69) (reach (inRun run.Digits) s (pastSign s (i + 1))) i
 
--- `lex_float`, from f on
-unfoldable pub lexFloat : List ℕ → ℕ → Lexeme
-lexFloat s f = withPrecision K.Float s (pastExponent s (pastPoint s f))
-
 -- past a point and at least one digit, or nothing
 unfoldable pub pastFraction : List ℕ → ℕ → ℕ
 pastFraction s i = pick (eqb (byte s i) 46 && isDigit (byte s (i + 1))) (reach (inRun run.Digits) s (i + 1)) i
@@ -67,28 +63,37 @@ lexDuration s f = durationBy (parseOf (take (past unitPiece s f) s)) (past unitP
 abbrev pub goesOnFloat : ℕ → Bool
 goesOnFloat a = (eqb a 46 || eqb a 101) || eqb a 69
 
+-- the kind of a number: `lex_float` or an Int
+abbrev pub numberKind : Bool → TokenKind
+numberKind float = pick float K.Float K.Int
+
+-- where its value ends, its digits and fraction ending at f
+unfoldable pub valueEnd : List ℕ → ℕ → Bool → ℕ
+valueEnd s f float = pick float (pastExponent s (pastPoint s f)) f
+
 -- a number whose digits end at n and whose fraction ends at f
 unfoldable pub lexTail : List ℕ → ℕ → ℕ → Lexeme
 lexTail s n f =
-    pick (atDurationUnit (byte s f) (byte s (f + 1))) (lexDuration s f)
-    (pick (ltb n f || goesOnFloat (byte s f)) (lexFloat s f) (withPrecision K.Int s f))
+    let float = ltb n f || goesOnFloat (byte s f) in
+    pick (atDurationUnit (byte s f) (byte s (f + 1))) (lexDuration s f) (withPrecision (numberKind float) s (valueEnd s f float))
 
--- document 01: "An unsigned run of exactly four digits before `-` starts a timestamp run"
-unfoldable pub lexUnsigned : List ℕ → Lexeme
-lexUnsigned s =
-    let n = reach (inRun run.Digits) s 0 in
-    pick (eqb n 4 && eqb (byte s n) 45) (whole K.Timestamp (reach (inRun run.Stamp) s n)) (lexTail s n (pastFraction s n))
+-- the digits from i on, and what follows them; document 01: "An unsigned run of exactly four digits before `-` starts a timestamp run"
+unfoldable pub lexDigits : List ℕ → ℕ → Lexeme
+lexDigits s i =
+    let n = reach (inRun run.Digits) s i in
+    pick ((eqb i 0 && eqb n 4) && eqb (byte s n) 45) (whole K.Timestamp (reach (inRun run.Stamp) s n)) (lexTail s n (pastFraction s n))
 
 -- `inf` after a sign, where no name byte follows
 unfoldable pub atInf : List ℕ → Bool
 atInf s = ((eqb (byte s 1) 105 && eqb (byte s 2) 110) && eqb (byte s 3) 102) && not (isIdentPart (byte s 4))
 
--- `-` without digit or `inf` is reason 17
-unfoldable pub lexMinus : List ℕ → Lexeme
-lexMinus s =
-    let n = reach (inRun run.Digits) s 1 in
-    pick (isDigit (byte s 1)) (lexTail s n (pastFraction s n)) (illegal 17 0 1)
+-- a sign
+abbrev pub isSign : ℕ → Bool
+isSign a = eqb a 43 || eqb a 45
 
--- `+` without `inf` is reason 16
-unfoldable pub lexSigned : List ℕ → Lexeme
-lexSigned s = pick (atInf s) (whole K.Float 4) (pick (eqb (byte s 0) 43) (illegal 16 0 1) (lexMinus s))
+-- `lex_number`: `+` without `inf` is reason 16, `-` without digit or `inf` is reason 17
+unfoldable pub lexNumber : List ℕ → Lexeme
+lexNumber s =
+    pick (isSign (byte s 0) && atInf s) (whole K.Float 4)
+    (pick (eqb (byte s 0) 43) (illegal 16 0 1)
+    (pick (eqb (byte s 0) 45 && not (isDigit (byte s 1))) (illegal 17 0 1) (lexDigits s (pick (eqb (byte s 0) 45) 1 0))))

@@ -2,7 +2,7 @@
 ghost use mathlib.Core.Path.{_≡_};
 ghost use Prim.Native.Nat.{_+_, _≤_};
 ghost use lib.ListN.{length};
-ghost use Rattle.scan.specs.Number.{withPrecision, pastPoint, pastSign, pastExponent, lexFloat, pastFraction, atDurationUnit, lexDuration, goesOnFloat, lexTail, lexUnsigned, atInf, lexMinus, lexSigned};
+ghost use Rattle.scan.specs.Number.{withPrecision, pastPoint, pastSign, pastExponent, pastFraction, atDurationUnit, lexDuration, goesOnFloat, numberKind, valueEnd, lexTail, lexDigits, atInf, lexNumber};
 use crate::run::Run;
 use crate::run::past_units;
 use crate::run::reach_run;
@@ -75,14 +75,6 @@ fn past_exponent(s: &[u8], i: usize) -> usize
     i
 }
 
-// A float whose digits and fraction end at `f`.
-fn lex_float(s: &[u8], f: usize) -> Lexeme
-    requires { ⌜ f ≤ length (now s) ⌝ }
-    ensures { λ r. ⌜ r ≡ lexFloat (now (s .entry)) f ⌝ }
-{
-    with_precision(TokenKind::Float, s, past_exponent(s, past_point(s, f)))
-}
-
 // Past a point and at least one digit, or nothing.
 fn past_fraction(s: &[u8], i: usize) -> usize
     requires { ⌜ i ≤ length (now s) ⌝ }
@@ -131,6 +123,27 @@ fn goes_on_float(a: u8) -> bool
     (a == b'.') | (a == b'e') | (a == b'E')
 }
 
+// The kind of a number.
+fn number_kind(float: bool) -> TokenKind
+    ensures { λ r. ⌜ r ≡ numberKind float ⌝ }
+{
+    if float {
+        return TokenKind::Float;
+    }
+    TokenKind::Int
+}
+
+// Where the value of a number ends whose digits and fraction end at `f`.
+fn value_end(s: &[u8], f: usize, float: bool) -> usize
+    requires { ⌜ f ≤ length (now s) ⌝ }
+    ensures { λ r. ⌜ r ≡ valueEnd (now (s .entry)) f float ⌝ }
+{
+    if float {
+        return past_exponent(s, past_point(s, f));
+    }
+    f
+}
+
 // A number whose digits end at `n` and whose fraction ends at `f`.
 fn lex_tail(s: &[u8], n: usize, f: usize) -> Lexeme
     requires { ⌜ f ≤ length (now s) ⌝ }
@@ -140,18 +153,17 @@ fn lex_tail(s: &[u8], n: usize, f: usize) -> Lexeme
     if at_duration_unit(b, peek(s, f + 1)) {
         return lex_duration(s, f);
     }
-    if (n < f) | goes_on_float(b) {
-        return lex_float(s, f);
-    }
-    with_precision(TokenKind::Int, s, f)
+    let float = (n < f) | goes_on_float(b);
+    with_precision(number_kind(float), s, value_end(s, f, float))
 }
 
-// `lex_number` at a digit; four digits before `-` start a timestamp.
-pub fn lex_unsigned(s: &[u8]) -> Lexeme
-    ensures { λ r. ⌜ r ≡ lexUnsigned (now (s .entry)) ⌝ }
+// The digits from `at` on, and what follows them; four unsigned digits before `-` start a timestamp.
+fn lex_digits(s: &[u8], at: usize) -> Lexeme
+    requires { ⌜ at ≤ length (now s) ⌝ }
+    ensures { λ r. ⌜ r ≡ lexDigits (now (s .entry)) at ⌝ }
 {
-    let n = reach_run(Run::Digits, s, 0);
-    if (n == 4) & (peek(s, n) == b'-') {
+    let n = reach_run(Run::Digits, s, at);
+    if (at == 0) & (n == 4) & (peek(s, n) == b'-') {
         return lexeme::whole(TokenKind::Timestamp, reach_run(Run::Stamp, s, n));
     }
     lex_tail(s, n, past_fraction(s, n))
@@ -164,28 +176,21 @@ fn at_inf(s: &[u8]) -> bool
     (peek(s, 1) == b'i') & (peek(s, 2) == b'n') & (peek(s, 3) == b'f') & !is_ident_part(peek(s, 4))
 }
 
-// A number after `-`.
-fn lex_minus(s: &[u8]) -> Lexeme
+// What begins with a sign or a digit.
+pub fn lex_number(s: &[u8]) -> Lexeme
     requires { ⌜ 1 ≤ length (now s) ⌝ }
-    ensures { λ r. ⌜ r ≡ lexMinus (now (s .entry)) ⌝ }
+    ensures { λ r. ⌜ r ≡ lexNumber (now (s .entry)) ⌝ }
 {
-    if is_digit(peek(s, 1)) {
-        let n = reach_run(Run::Digits, s, 1);
-        return lex_tail(s, n, past_fraction(s, n));
-    }
-    lexeme::illegal(17, 0, 1)
-}
-
-// `lex_number` at a sign.
-pub fn lex_signed(s: &[u8]) -> Lexeme
-    requires { ⌜ 1 ≤ length (now s) ⌝ }
-    ensures { λ r. ⌜ r ≡ lexSigned (now (s .entry)) ⌝ }
-{
-    if at_inf(s) {
+    let a = peek(s, 0);
+    let minus = a == b'-';
+    if ((a == b'+') | minus) & at_inf(s) {
         return lexeme::whole(TokenKind::Float, 4);
     }
-    if peek(s, 0) == b'+' {
+    if a == b'+' {
         return lexeme::illegal(16, 0, 1);
     }
-    lex_minus(s)
+    if minus & !is_digit(peek(s, 1)) {
+        return lexeme::illegal(17, 0, 1);
+    }
+    lex_digits(s, minus as usize)
 }

@@ -8,13 +8,15 @@ use native.Mathlib.Nat.{add-zero}
 use native.Mathlib.Numerals.{add-one}
 use native.Mathlib.Omega.{arith}
 use lib.ListN.{length, getD, take, drop, length-drop}
-use lib.Seq.{take-suc, take-add, length-take-le}
+use lib.Seq.{take-suc, take-add, length-take-le, getD-drop}
 use lib.Dec.{eqb}
+use borrow.Author.Tests.{ne-eqb}
 use Rattle.base.specs.Choice.{pick}
+use Rattle.base.specs.Bytes.{byte}
 use Rattle.base.specs.Blocks.{allPass}
 use Rattle.base.proofs.Tests.{true-false}
 use Rattle.limits.specs.Limits.{maxMessageSize}
-use Rattle.token.specs.Place.{firstPlace, stepPlace, placeAfter, placeAt, newlines, notNewline, sinceNewline, Bounded, Steppable, Walkable}
+use Rattle.token.specs.Place.{firstPlace, stepPlace, placeAfter, placeAt, newlines, notNewline, Flat, sinceNewline, Bounded, Steppable, Walkable}
 use Rattle.token.specs.declared.place.Place.{Place}
 
 -- the place after two lists is the place after the second from the place after the first
@@ -149,3 +151,21 @@ to-place q h e l = record { true-place = e; forward = omega arith; inside = l; s
 -- a place with its own offset put in
 pub offset-put : (p : Place) (n : ℕ) → p .offset ≡ n → _≡_ {A = Place} (record { offset = n; line = p .line; column = p .column }) p
 offset-put p n e = ap (λ (o : ℕ). record { offset = o; line = p .line; column = p .column }) (sym e)
+
+-- n bytes without a newline from i on
+flat-from : (s : List ℕ) (i n : ℕ) → i + n ≤ length s → Flat (drop i s) n → placeAt s (i + n) ≡ along (placeAt s i) n
+flat-from s i zero h f = rw (add-zero i, add-zero (placeAt s i .offset), add-zero (placeAt s i .column))
+flat-from s i (suc n) h f =
+    let p = placeAt s i in
+    let o : p .offset + n + 1 ≡ p .offset + suc n = omega arith in
+    let c : p .column + n + 1 ≡ p .column + suc n = omega arith in
+    let e : i + n + 1 ≡ i + suc n = omega arith in
+    let b : eqb (byte s (i + n)) 0x0A ≡ false = ne-eqb (byte s (i + n)) 0x0A (λ z. f n (omega arith) (getD-drop i s n 0 ∙ z)) in
+    let g : placeAt s (i + n) ≡ along p n = flat-from s i n (omega arith) (λ j l. f j (omega arith)) in
+    let d : placeAt s (i + n + 1) ≡ stepPlace (along p n) (byte s (i + n)) = place-next s (i + n) (omega arith) ∙ ap (λ (q : Place). stepPlace q (byte s (i + n))) g in
+    rw (e, b, o, c) at d
+
+-- over the first bytes from a place on, where they have no newline
+pub flat-along : (s : List ℕ) (p : Place) (n : ℕ) → Walkable s p (p .offset + n) → Flat (drop (p .offset) s) n
+    → _≡_ {A = Place} (record { offset = p .offset + n; line = p .line; column = p .column + n }) (placeAt s (p .offset + n))
+flat-along s p n w f = ap (λ (q : Place). along q n) (w .true-place) ∙ sym (flat-from s (p .offset) n (w .inside) f)

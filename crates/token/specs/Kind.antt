@@ -1,5 +1,7 @@
 -- The numbers of the kinds of tokens.
+use mathlib.Core.Bool.{Bool, not, _||_}
 use Prim.Native.Nat.{ℕ}
+use lib.Dec.{eqb}
 use Rattle.token.specs.declared.kind.TokenKind.{TokenKind}
 use Rattle.token.specs.declared.kind.TokenKind.the-variants as K
 
@@ -31,3 +33,8 @@ kindNumber K.AtType = 22
 kindNumber K.AtDirective = 23
 kindNumber K.AtDataset = 24
 kindNumber K.AtProto = 25
+
+-- the kinds whose tokens have no newline in any text: all but Illegal, Newline, Comment, String and Bytes
+unfoldable pub onOneLine : TokenKind → Bool
+onOneLine k =
+    not ((((eqb (kindNumber k) 1 || eqb (kindNumber k) 2) || eqb (kindNumber k) 3) || eqb (kindNumber k) 5) || eqb (kindNumber k) 10)

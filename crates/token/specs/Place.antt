@@ -6,6 +6,7 @@ use Prim.Native.Nat.{ℕ, suc, _+_, _≤_, _<_}
 use lib.ListN.{length, take}
 use lib.Dec.{eqb}
 use Rattle.base.specs.Choice.{pick}
+use Rattle.base.specs.Bytes.{byte}
 use Rattle.limits.specs.Limits.{maxMessageSize}
 use Rattle.token.specs.declared.place.Place.{Place}
 
@@ -36,6 +37,10 @@ newlines (b ∷ t) = pick (eqb b 0x0A) 1 0 + newlines t
 -- a byte that is no newline
 abbrev pub notNewline : ℕ → Bool
 notNewline b = not (eqb b 0x0A)
+
+-- none of the first n bytes is a newline
+abbrev pub Flat : List ℕ → ℕ → Type 0
+Flat s n = (j : ℕ) → j < n → byte s j ≡ 0x0A → ⊥
 
 -- the bytes of a list since its last newline, n of them being counted already
 abbrev pub sinceNewline : ℕ → List ℕ → ℕ

@@ -1,6 +1,6 @@
 // The kinds of tokens, in the order of token.rs.
 ghost use mathlib.Core.Path.{_≡_};
-ghost use Rattle.token.specs.Kind.{kindNumber};
+ghost use Rattle.token.specs.Kind.{kindNumber, onOneLine};
 
 pub enum TokenKind {
     Eof,
@@ -64,5 +64,13 @@ impl TokenKind {
             TokenKind::AtDataset => 24,
             TokenKind::AtProto => 25,
         }
+    }
+
+    // Whether its tokens have no newline, in any text.
+    pub fn on_one_line(self) -> bool
+        ensures { λ r. ⌜ r ≡ onOneLine self ⌝ }
+    {
+        let n = self.number();
+        !((n == 1) | (n == 2) | (n == 3) | (n == 5) | (n == 10))
     }
 }

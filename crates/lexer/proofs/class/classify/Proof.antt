@@ -13,7 +13,7 @@ use Rattle.lexer.proofs.class.classify.Tie as tie
 -- none of the keys: the digits, the names and the rest are left
 others : (c : tie.At-match-rest)
     → classOf (c .before .args .a) (c .before .args .b) (c .before .args .c)
-    ≡ pick (isDigit (c .before .args .a)) C.Unsigned (pick (isIdentStart (c .before .args .a)) C.Name C.Other)
+    ≡ pick (isDigit (c .before .args .a)) C.Number (pick (isIdentStart (c .before .args .a)) C.Name C.Other)
 unfolding classOf
 others c =
     let r = c .match .rest in

@@ -58,23 +58,17 @@ lex-directive-requires c κs = search needs
 enum-told-8 : tie.Need-enum-told-8
 enum-told-8 c = search needs
 
-lex-signed-requires : tie.Need-lex-signed-requires
-lex-signed-requires c κs = search needs
+lex-number-requires : tie.Need-lex-number-requires
+lex-number-requires c κs = search needs
 
 enum-told-9 : tie.Need-enum-told-9
 enum-told-9 c = search needs
 
-lex-unsigned-requires : tie.Need-lex-unsigned-requires
-lex-unsigned-requires c κs = search needs
-
-enum-told-10 : tie.Need-enum-told-10
-enum-told-10 c = search needs
-
 lex-ident-requires : tie.Need-lex-ident-requires
 lex-ident-requires c κs = search needs
 
-enum-told-11 : tie.Need-enum-told-11
-enum-told-11 c = search needs
+enum-told-10 : tie.Need-enum-told-10
+enum-told-10 c = search needs
 
 lex-other-requires : tie.Need-lex-other-requires
 lex-other-requires c κs = search needs
@@ -113,19 +107,15 @@ returns-8 c = rw (c .before .enum-told7 .given .1) (c .lex-directive .ensures)
 
 returns-9 : tie.Need-returns-9
 unfolding lexBy
-returns-9 c = rw (c .before .enum-told8 .given .1) (c .lex-signed .ensures)
+returns-9 c = rw (c .before .enum-told8 .given .1) (c .lex-number .ensures)
 
 returns-10 : tie.Need-returns-10
 unfolding lexBy
-returns-10 c = rw (c .before .enum-told9 .given .1) (c .lex-unsigned .ensures)
+returns-10 c = rw (c .before .enum-told9 .given .1) (c .lex-ident .ensures)
 
 returns-11 : tie.Need-returns-11
 unfolding lexBy
-returns-11 c = rw (c .before .enum-told10 .given .1) (c .lex-ident .ensures)
-
-returns-12 : tie.Need-returns-12
-unfolding lexBy
-returns-12 c = rw (c .before .enum-told11 .given .1) (c .lex-other .ensures)
+returns-11 c = rw (c .before .enum-told10 .given .1) (c .lex-other .ensures)
 
 pub lex-by-spec : {M : Type 1} → statement M
 lex-by-spec =
@@ -148,12 +138,10 @@ lex-by-spec =
     enum-told-7
     lex-directive-requires
     enum-told-8
-    lex-signed-requires
+    lex-number-requires
     enum-told-9
-    lex-unsigned-requires
-    enum-told-10
     lex-ident-requires
-    enum-told-11
+    enum-told-10
     lex-other-requires
     returns
     returns-2
@@ -165,5 +153,4 @@ lex-by-spec =
     returns-8
     returns-9
     returns-10
-    returns-11
-    returns-12)
+    returns-11)

@@ -1,6 +1,7 @@
 -- `lex_tail` meets its contract: each return is a case of the definition. Assumes nothing.
 use borrow.Author.Needs.{needs}
 use Rattle.scan.specs.Number.{lexTail}
+use Rattle.scan.proofs.Goes.{goes-value}
 use Rattle.scan.proofs.number.lex_tail.Statement.{statement}
 use Rattle.scan.proofs.number.lex_tail.Tie as tie
 
@@ -28,37 +29,27 @@ returns c =
 goes-on-float-requires : tie.Need-goes-on-float-requires
 goes-on-float-requires c κs = search needs
 
-lex-float-requires : tie.Need-lex-float-requires
-lex-float-requires c κs = search needs
+number-kind-requires : tie.Need-number-kind-requires
+number-kind-requires c κs = search needs
+
+value-end-requires : tie.Need-value-end-requires
+value-end-requires c κs = search needs
+
+with-precision-requires : tie.Need-with-precision-requires
+with-precision-requires c κs = rw (c .value-end .ensures) (goes-value _ _ _ .le (c .before .before .before .before .before .before .before .before .pre))
 
 returns-2 : tie.Need-returns-2
 unfolding lexTail
 returns-2 c =
-    let b = c .before .before .before .before in
+    let b = c .before .before .before .before .before in
     rw (
       ← b .before .before .peek .ensures,
       ← b .before .peek2 .ensures,
       ← b .at-duration-unit .ensures,
-      c .before .before .before .if1 .left,
-      ← c .before .before .goes-on-float .ensures,
-      c .before .if2 .taken,
-    )
-    (c .lex-float .ensures)
-
-with-precision-requires : tie.Need-with-precision-requires
-with-precision-requires c κs = search needs
-
-returns-3 : tie.Need-returns-3
-unfolding lexTail
-returns-3 c =
-    let b = c .before .before .before .before in
-    rw (
-      ← b .before .before .peek .ensures,
-      ← b .before .peek2 .ensures,
-      ← b .at-duration-unit .ensures,
-      c .before .before .before .if1 .left,
-      ← c .before .before .goes-on-float .ensures,
-      c .before .if2 .left,
+      c .before .before .before .before .if1 .left,
+      ← c .before .before .before .goes-on-float .ensures,
+      ← c .before .before .number-kind .ensures,
+      ← c .before .value-end .ensures,
     )
     (c .with-precision .ensures)
 
@@ -73,7 +64,7 @@ lex-tail-spec =
     lex-duration-requires
     returns
     goes-on-float-requires
-    lex-float-requires
-    returns-2
+    number-kind-requires
+    value-end-requires
     with-precision-requires
-    returns-3)
+    returns-2)

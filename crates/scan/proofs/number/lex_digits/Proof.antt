@@ -1,12 +1,11 @@
--- `lex_unsigned` meets its contract: four digits before `-` are a timestamp's, others a number's. Assumes nothing.
-use Prim.Native.Nat.{zero-le}
+-- `lex_digits` meets its contract: four unsigned digits before `-` are a timestamp's, others a number's. Assumes nothing.
 use borrow.Author.Needs.{needs}
 use Rattle.base.proofs.Reaches.{reach-le}
-use Rattle.scan.specs.Number.{lexUnsigned}
+use Rattle.scan.specs.Number.{lexDigits}
 use Rattle.scan.specs.Run.{inRun}
 use Rattle.scan.proofs.Goes.{goes-fraction}
-use Rattle.scan.proofs.number.lex_unsigned.Statement.{statement}
-use Rattle.scan.proofs.number.lex_unsigned.Tie as tie
+use Rattle.scan.proofs.number.lex_digits.Statement.{statement}
+use Rattle.scan.proofs.number.lex_digits.Tie as tie
 
 reach-run-requires : tie.Need-reach-run-requires
 reach-run-requires c κs = search needs
@@ -21,25 +20,29 @@ whole-requires : tie.Need-whole-requires
 whole-requires c κs = search needs
 
 returns : tie.Need-returns
-unfolding lexUnsigned
+unfolding lexDigits
 returns c =
     let b = c .before .before .before in
     rw (← b .before .reach-run .ensures, ← b .peek .ensures, c .before .before .if1 .taken, ← c .before .reach-run2 .ensures) (c .whole .ensures)
 
 past-fraction-requires : tie.Need-past-fraction-requires
-past-fraction-requires c κs = rw (c .before .before .reach-run .ensures) (reach-le (inRun _) _ 0 zero-le)
+past-fraction-requires c κs =
+    let b = c .before .before in
+    rw (b .reach-run .ensures) (reach-le (inRun _) _ _ (b .before .before .pre))
 
 lex-tail-requires : tie.Need-lex-tail-requires
-lex-tail-requires c κs = rw (c .past-fraction .ensures, c .before .before .before .reach-run .ensures) (goes-fraction _ _ .le (reach-le (inRun _) _ 0 zero-le))
+lex-tail-requires c κs =
+    let b = c .before .before .before in
+    rw (c .past-fraction .ensures, b .reach-run .ensures) (goes-fraction _ _ .le (reach-le (inRun _) _ _ (b .before .before .pre)))
 
 returns-2 : tie.Need-returns-2
-unfolding lexUnsigned
+unfolding lexDigits
 returns-2 c =
     let b = c .before .before .before in
     rw (← b .before .reach-run .ensures, ← b .peek .ensures, c .before .before .if1 .left, ← c .before .past-fraction .ensures) (c .lex-tail .ensures)
 
-pub lex-unsigned-spec : {M : Type 1} → statement M
-lex-unsigned-spec =
+pub lex-digits-spec : {M : Type 1} → statement M
+lex-digits-spec =
     tie.close
     (tie.spec
     reach-run-requires

@@ -1,22 +1,24 @@
--- Places as a fold over the bytes before them: two lists one after the other, one byte more, bounds, lines and columns, bytes
--- without a newline. By induction on the list. Assumes nothing.
+-- Places as a fold over the bytes before them: two lists one after the other, one byte more, bounds, lines and columns, whole lines.
+-- By induction on the list. Assumes nothing.
 use mathlib.Core.Path.{_≡_, refl, sym, ap, _∙_}
-use mathlib.Core.Bool.{Bool, true, false, not, _&&_}
+use mathlib.Core.Bool.{Bool, true, false, not}
 use mathlib.Core.List.{List, [], _∷_, _++_}
 use Prim.Native.Nat.{ℕ, zero, suc, _+_, _-_, _≤_, _<_}
 use native.Mathlib.Nat.{add-zero}
 use native.Mathlib.Numerals.{add-one}
 use native.Mathlib.Omega.{arith}
-use lib.ListN.{length, getD, take, drop, length-drop}
-use lib.Seq.{take-suc, take-add, length-take-le, getD-drop}
+use lib.ListN.{length, getD, take, drop}
+use lib.Seq.{take-suc, take-take, length-take-le, getD-drop}
 use lib.Dec.{eqb}
-use borrow.Author.Tests.{ne-eqb}
+use borrow.Author.Tests.{ne-eqb, eqb-true, not-false}
 use Rattle.base.specs.Choice.{pick}
 use Rattle.base.specs.Bytes.{byte}
-use Rattle.base.specs.Blocks.{allPass}
+use Rattle.base.specs.Runs.{reach}
+use Rattle.base.specs.Blocks.{other}
 use Rattle.base.proofs.Tests.{true-false}
+use Rattle.base.proofs.Reaches.{reach-le, reach-ge, reach-all, reach-fails}
 use Rattle.limits.specs.Limits.{maxMessageSize}
-use Rattle.token.specs.Place.{firstPlace, stepPlace, placeAfter, placeAt, newlines, notNewline, Flat, sinceNewline, Bounded, Steppable, Walkable}
+use Rattle.token.specs.Place.{firstPlace, stepPlace, placeAfter, placeAt, newlines, Flat, sinceNewline, Bounded, Steppable, Walkable}
 use Rattle.token.specs.declared.place.Place.{Place}
 
 -- the place after two lists is the place after the second from the place after the first
@@ -63,34 +65,16 @@ after-column p n (b ∷ l) e = go (eqb b 0x0A) (λ q m h. after-column q m l h)
     go true ih = ih (stepBy true p) 0 refl
     go false ih = ih (stepBy false p) (suc n) (omega arith)
 
--- n bytes further on the same line
-abbrev along : Place → ℕ → Place
-along p n = record { offset = p .offset + n; line = p .line; column = p .column + n }
-
--- bytes without a newline stay on the line
-along-more : (x : Bool) (p : Place) (l : List ℕ) → ((q : Place) → allPass notNewline l ≡ true → placeAfter q l ≡ along q (length l))
-    → not x && allPass notNewline l ≡ true → placeAfter (stepBy x p) l ≡ along p (suc (length l))
-along-more true p l ih e = true-false false e refl
-along-more false p l ih e =
-    let a : p .offset + 1 + length l ≡ p .offset + suc (length l) = omega arith in
-    let b : p .column + 1 + length l ≡ p .column + suc (length l) = omega arith in
-    rw (← a, ← b) (ih (stepBy false p) e)
-
-after-along : (p : Place) (l : List ℕ) → allPass notNewline l ≡ true → placeAfter p l ≡ along p (length l)
-unfolding allPass
-after-along p [] e = rw (add-zero (p .offset), add-zero (p .column))
-after-along p (b ∷ l) e = along-more (eqb b 0x0A) p l (λ q h. after-along q l h) e
-
 module _ (s : List ℕ) (i : ℕ) where
   -- the place of the next offset is one step further
   pub place-next : i < length s → placeAt s (i + 1) ≡ stepPlace (placeAt s i) (getD s i 0)
   unfolding placeAt
   place-next h = rw (add-one, take-suc s i 0 h) (after-append firstPlace (take i s) (getD s i 0 ∷ []))
 
-  -- the place n bytes further is the place after those bytes
-  pub place-add : (n : ℕ) → placeAt s (i + n) ≡ placeAfter (placeAt s i) (take n (drop i s))
+  -- of the text cut off at an offset further on, i has the same place
+  pub place-cut : (to : ℕ) → i ≤ to → placeAt (take to s) i ≡ placeAt s i
   unfolding placeAt
-  place-add n = rw (take-add i n s) (after-append firstPlace (take i s) (take n (drop i s)))
+  place-cut to h = rw (take-take i to s h)
 
   -- "line is one more than the newlines before"
   pub place-line : placeAt s i .line ≡ 1 + newlines (take i s)
@@ -113,6 +97,32 @@ module _ (s : List ℕ) (i : ℕ) where
     pub place-bounded : Bounded (placeAt s i)
     place-bounded = let m = place-moved in record { line = omega arith; column = omega arith }
 
+-- n bytes further on the same line
+abbrev along : Place → ℕ → Place
+along p n = record { offset = p .offset + n; line = p .line; column = p .column + n }
+
+-- over n bytes without a newline a place only moves along
+flat-from : (s : List ℕ) (i n : ℕ) → i + n ≤ length s → Flat (drop i s) n → placeAt s (i + n) ≡ along (placeAt s i) n
+flat-from s i zero h f = rw (add-zero i, add-zero (placeAt s i .offset), add-zero (placeAt s i .column))
+flat-from s i (suc n) h f =
+    let p = placeAt s i in
+    let o : p .offset + n + 1 ≡ p .offset + suc n = omega arith in
+    let c : p .column + n + 1 ≡ p .column + suc n = omega arith in
+    let e : i + n + 1 ≡ i + suc n = omega arith in
+    let b : eqb (byte s (i + n)) 0x0A ≡ false = ne-eqb (byte s (i + n)) 0x0A (λ z. f n (omega arith) (getD-drop i s n 0 ∙ z)) in
+    let g : placeAt s (i + n) ≡ along p n = flat-from s i n (omega arith) (λ j l. f j (omega arith)) in
+    let d : placeAt s (i + n + 1) ≡ stepPlace (along p n) (byte s (i + n)) = place-next s (i + n) (omega arith) ∙ ap (λ (q : Place). stepPlace q (byte s (i + n))) g in
+    rw (e, b, o, c) at d
+
+-- up to the end of its line
+line-along : (s : List ℕ) (i n : ℕ) → i ≤ length s → i + n ≤ reach (other 0x0A) s i → placeAt s (i + n) ≡ along (placeAt s i) n
+line-along s i n h l = flat-from s i n (omega (arith, l, reach-le (other 0x0A) s i h)) flat
+  where
+    flat : Flat (drop i s) n
+    flat j k z =
+        let e : byte s (i + j) ≡ 0x0A = sym (getD-drop i s j 0) ∙ z in
+        true-false (not (eqb (byte s (i + j)) 0x0A)) (reach-all (other 0x0A) s i (i + j) (omega arith) (omega (arith, l))) (rw e)
+
 -- a place of a text that is short enough, before its end, can be stepped, and the step is the next place
 module _ (s : List ℕ) (i : ℕ) (q : Place) (e : q ≡ placeAt s i) (h : i < length s) where
   pub place-step : stepPlace q (getD s i 0) ≡ placeAt s (i + 1)
@@ -120,24 +130,53 @@ module _ (s : List ℕ) (i : ℕ) (q : Place) (e : q ≡ placeAt s i) (h : i < l
 
   pub place-steppable : length s ≤ maxMessageSize → Steppable q
   place-steppable k =
-      let m : Moved firstPlace (placeAt s i) i = place-moved s i (omega arith) in
-      rw e (record { offset = omega arith; bounded = record { line = omega arith; column = omega arith } })
+      let l : i ≤ length s = omega arith in
+      rw e (record { offset = omega (arith, place-offset s i l); bounded = place-bounded s i l })
+
+-- the line from the place p on ends at r
+pub record Line (s : List ℕ) (p : Place) (r : ℕ) : Type 0 where
+  pub later : p .offset ≤ r
+  pub inside : r ≤ length s
+  pub line : p .line ≤ r + 1
+  pub column : p .column + (r - p .offset) ≤ r + 1
+  pub end : _≡_ {A = Place} (record { offset = r; line = p .line; column = p .column + (r - p .offset) }) (placeAt s r)
 
 module _ (s : List ℕ) (p : Place) (to : ℕ) (w : Walkable s p to) where
   pub walk-bounded : Bounded p
   walk-bounded = rw (w .true-place) (place-bounded s (p .offset) (omega (arith, w .forward, w .inside)))
 
-  -- over bytes without a newline
-  pub walk-along : allPass notNewline (take (to - p .offset) (drop (p .offset) s)) ≡ true
-      → _≡_ {A = Place} (record { offset = to; line = p .line; column = p .column + (to - p .offset) }) (placeAt s to)
-  walk-along e =
-      let n : ℕ = to - p .offset in
-      let l : List ℕ = take n (drop (p .offset) s) in
-      let z : p .offset + n ≡ to = omega (arith, w .forward) in
-      let k : length l ≡ n = length-take-le n (drop (p .offset) s) (rw (length-drop (p .offset) s) (omega (arith, w .inside))) in
-      let f : placeAfter p l ≡ along p n = rw k at (after-along p l e) in
-      let g : placeAfter p l ≡ placeAt s (p .offset + n) = rw (place-add s (p .offset) n, ← w .true-place) in
-      rw z at (sym f ∙ g)
+  -- the same walk in the text cut off at `to`
+  pub walk-cut : Walkable (take to s) p to
+  walk-cut =
+      let k : length (take to s) ≡ to = length-take-le to s (w .inside) in
+      record {
+        true-place = rw (place-cut s (p .offset) to (w .forward)) (w .true-place);
+        forward = w .forward;
+        inside = omega (arith, k);
+        short = omega (arith, k, w .inside, w .short);
+      }
+
+  module _ (r : ℕ) (e : r ≡ reach (other 0x0A) s (p .offset)) where
+    -- up to the end of the line
+    pub walk-line : Line s p r
+    walk-line =
+        let h : p .offset ≤ length s = omega (arith, w .forward, w .inside) in
+        let l : p .offset ≤ r = rw e (reach-ge (other 0x0A) s (p .offset)) in
+        let k : r ≤ length s = rw e (reach-le (other 0x0A) s (p .offset) h) in
+        let n : ℕ = r - p .offset in
+        let z : p .offset + n ≡ r = omega arith in
+        let a : placeAt s (p .offset + n) ≡ along (placeAt s (p .offset)) n = line-along s (p .offset) n h (omega (arith, e)) in
+        let f : placeAt s r ≡ record { offset = r; line = p .line; column = p .column + n } = rw (← w .true-place, z) at a in
+        let m : Moved firstPlace (record { offset = r; line = p .line; column = p .column + n }) r = rw f at (place-moved s r k) in
+        record { later = l; inside = k; line = omega (arith, m .line); column = omega (arith, m .column); end = sym f }
+
+    -- past the newline there
+    pub walk-newline : r < to → Walkable s (record { offset = r + 1; line = p .line + 1; column = 1 }) to
+    walk-newline h =
+        let k : r < length s = omega (arith, w .inside) in
+        let b : getD s r 0 ≡ 0x0A = eqb-true _ _ (not-false _ (rw (← e) at (reach-fails (other 0x0A) s (p .offset) (rw (← e) k)))) in
+        let f = rw b at (place-step s r _ (walk-line .end) k) in
+        record { true-place = f; forward = omega arith; inside = w .inside; short = w .short }
 
 -- from the first place to any offset of a text that is read
 pub first-walkable : (text : List ℕ) (p : Place) → p ≡ firstPlace → length text ≤ maxMessageSize → (i : ℕ) → i ≤ length text → Walkable text p i
@@ -151,19 +190,6 @@ to-place q h e l = record { true-place = e; forward = omega arith; inside = l; s
 -- a place with its own offset put in
 pub offset-put : (p : Place) (n : ℕ) → p .offset ≡ n → _≡_ {A = Place} (record { offset = n; line = p .line; column = p .column }) p
 offset-put p n e = ap (λ (o : ℕ). record { offset = o; line = p .line; column = p .column }) (sym e)
-
--- n bytes without a newline from i on
-flat-from : (s : List ℕ) (i n : ℕ) → i + n ≤ length s → Flat (drop i s) n → placeAt s (i + n) ≡ along (placeAt s i) n
-flat-from s i zero h f = rw (add-zero i, add-zero (placeAt s i .offset), add-zero (placeAt s i .column))
-flat-from s i (suc n) h f =
-    let p = placeAt s i in
-    let o : p .offset + n + 1 ≡ p .offset + suc n = omega arith in
-    let c : p .column + n + 1 ≡ p .column + suc n = omega arith in
-    let e : i + n + 1 ≡ i + suc n = omega arith in
-    let b : eqb (byte s (i + n)) 0x0A ≡ false = ne-eqb (byte s (i + n)) 0x0A (λ z. f n (omega arith) (getD-drop i s n 0 ∙ z)) in
-    let g : placeAt s (i + n) ≡ along p n = flat-from s i n (omega arith) (λ j l. f j (omega arith)) in
-    let d : placeAt s (i + n + 1) ≡ stepPlace (along p n) (byte s (i + n)) = place-next s (i + n) (omega arith) ∙ ap (λ (q : Place). stepPlace q (byte s (i + n))) g in
-    rw (e, b, o, c) at d
 
 -- over the first bytes from a place on, where they have no newline
 pub flat-along : (s : List ℕ) (p : Place) (n : ℕ) → Walkable s p (p .offset + n) → Flat (drop (p .offset) s) n

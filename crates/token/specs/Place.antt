@@ -1,6 +1,5 @@
 -- Places: document 01, "Places and records", first paragraph.
 use mathlib.Core.Path.{_≡_}
-use mathlib.Core.Bool.{Bool, not}
 use mathlib.Core.List.{List, [], _∷_}
 use Prim.Native.Nat.{ℕ, suc, _+_, _≤_, _<_}
 use lib.ListN.{length, take}
@@ -33,10 +32,6 @@ placeAt s i = placeAfter firstPlace (take i s)
 abbrev pub newlines : List ℕ → ℕ
 newlines [] = 0
 newlines (b ∷ t) = pick (eqb b 0x0A) 1 0 + newlines t
-
--- a byte that is no newline
-abbrev pub notNewline : ℕ → Bool
-notNewline b = not (eqb b 0x0A)
 
 -- none of the first n bytes is a newline
 abbrev pub Flat : List ℕ → ℕ → Type 0

@@ -1,7 +1,6 @@
 // Places in a text.
 ghost use mathlib.Core.Path.{_≡_};
-ghost use Rattle.base.specs.Blocks.{allPass};
-ghost use Rattle.token.specs.Place.{firstPlace, stepPlace, placeAt, notNewline, Steppable, Walkable};
+ghost use Rattle.token.specs.Place.{firstPlace, stepPlace, placeAt, Steppable, Walkable};
 
 // A byte's offset, and the line and the column at which it stands. Columns count bytes.
 pub struct Place {
@@ -45,46 +44,27 @@ impl Place {
     }
 }
 
-// Whether no byte is a newline. It looks at every byte, so that several can be tested by one instruction.
-fn no_newline(s: &[u8]) -> bool
-    ensures { λ r. ⌜ r ≡ allPass notNewline (now (s .entry)) ⌝ }
-{
-    let mut none = true;
-    let mut i = 0;
-    while i < s.len() {
-        none = none & (s[i] != b'\n');
-        i += 1;
-    }
-    none
-}
-
-// The place of the offset `to`, byte by byte from the place of an offset before it.
-fn walk_bytes(text: &[u8], from: Place, to: usize) -> Place
-    requires { ⌜ Walkable (now text) from to ⌝ }
-    ensures { λ r. ⌜ r ≡ placeAt (now (text .entry)) to ⌝ }
-{
-    let mut p = from;
-    let mut i = from.offset;
-    while i < to {
-        let b = text[i];
-        p = p.step(b);
-        i += 1;
-    }
-    p
-}
-
-// The same, in one step if there is no newline on the way.
+// The place of the offset `to`, line by line from the place of an offset before it.
 pub fn walk(text: &[u8], from: Place, to: usize) -> Place
     requires { ⌜ Walkable (now text) from to ⌝ }
     ensures { λ r. ⌜ r ≡ placeAt (now (text .entry)) to ⌝ }
 {
-    let at = from.offset;
-    if no_newline(&text[at..to]) {
-        return Place {
-            offset: to,
-            line: from.line,
-            column: from.column + (to - at),
-        };
+    let s = &text[..to];
+    let mut offset = from.offset;
+    let mut line = from.line;
+    let mut column = from.column;
+    loop {
+        let end = base::find::find(s, b'\n', offset);
+        column += end - offset;
+        if to <= end {
+            return Place {
+                offset: end,
+                line,
+                column,
+            };
+        }
+        offset = end + 1;
+        line += 1;
+        column = 1;
     }
-    walk_bytes(text, from, to)
 }

@@ -1,53 +1,81 @@
--- `walk` gives the place of `to`: without a newline on the way only the column grows. Assumes nothing.
-use mathlib.Core.Path.{sym, _∙_}
+-- `walk` gives the place of `to`: at each turn the place is that of an offset of the text up to `to`, a line further. Assumes nothing.
+use mathlib.Core.Path.{_≡_, sym, _∙_}
+use Prim.Native.Nat.{_-_}
 use native.Mathlib.Omega.{arith}
-use Rattle.token.proofs.Places.{walk-bounded, walk-along}
+use lib.Seq.{length-take-le}
+use Rattle.token.specs.Place.{Walkable}
+use Rattle.token.proofs.Places.{place-cut, walk-cut, walk-line, walk-newline}
 use borrow.Author.Needs.{needs}
 use Rattle.token.proofs.place.walk.Statement.{statement}
 use Rattle.token.proofs.place.walk.Tie as tie
 
-sub-no-newline : tie.Need-sub-no-newline
-sub-no-newline c = search needs
+abbrev Inv-loop : tie.InvT-loop
+Inv-loop text to s offset₀ line₀ column₀ offset line column = Walkable s (record { offset = offset; line = line; column = column }) to
 
-part-no-newline-start : tie.Need-part-no-newline-start
-part-no-newline-start c = search needs
+abbrev μ-loop : tie.MeasureT-loop
+μ-loop text to s offset₀ line₀ column₀ offset line column = to - offset
 
-part-no-newline-end : tie.Need-part-no-newline-end
-part-no-newline-end c = search needs
+slice-aggregate-s : tie.Need-slice-aggregate-s Inv-loop μ-loop
+slice-aggregate-s c = sym (length-take-le _ _ (c .before .before .pre .inside))
 
-no-newline-requires : tie.Need-no-newline-requires
-no-newline-requires c κs = search needs
+loop-holds : tie.Need-loop-holds Inv-loop μ-loop
+loop-holds c = walk-cut _ _ _ (c .before .before .pre)
 
-sub-t10 : tie.Need-sub-t10
-sub-t10 c = search needs
+find-requires : tie.Need-find-requires Inv-loop μ-loop
+find-requires c κs = search needs
 
-add-t11 : tie.Need-add-t11
-add-t11 c =
-    let w = c .before .before .before .before .before .pre in
-    let b = walk-bounded _ _ _ w in
-    omega (arith, b .column, w .forward, w .inside, w .short)
+sub-column : tie.Need-sub-column Inv-loop μ-loop
+sub-column c = let l = walk-line _ _ _ (c .before .loop .inv) _ (c .find .ensures) in l .later
 
-returns : tie.Need-returns
+add-column : tie.Need-add-column Inv-loop μ-loop
+add-column c =
+    let w = c .before .loop .inv in
+    let l = walk-line _ _ _ w _ (c .find .ensures) in
+    omega (arith, l .column, l .inside, w .short)
+
+returns : tie.Need-returns Inv-loop μ-loop
 returns c =
-    let b = c .before .before in
-    walk-along _ _ _ (b .before .before .before .pre) (sym (b .no-newline .ensures) ∙ c .before .if1 .taken)
+    let b = c .before in
+    let a = b .before .before .before .before in
+    let text = a .args .text .now in
+    let to = a .args .to in
+    let l = walk-line _ _ _ (b .before .loop .inv) _ (b .find .ensures) in
+    let z : b .find .result ≡ to = omega (arith, l .inside, c .if1 .taken, length-take-le to text (a .pre .inside)) in
+    l .end ∙ rw z (place-cut text to to (omega arith))
 
-walk-bytes-requires : tie.Need-walk-bytes-requires
-walk-bytes-requires c κs = search needs
+add-offset : tie.Need-add-offset Inv-loop μ-loop
+add-offset c =
+    let w = c .before .before .loop .inv in
+    let l = walk-line _ _ _ w _ (c .before .find .ensures) in
+    omega (arith, l .inside, w .short)
 
-returns-2 : tie.Need-returns-2
-returns-2 c = search needs
+add-line : tie.Need-add-line Inv-loop μ-loop
+add-line c =
+    let w = c .before .before .loop .inv in
+    let l = walk-line _ _ _ w _ (c .before .find .ensures) in
+    omega (arith, l .line, l .inside, w .short)
+
+loop-less : tie.Need-loop-less Inv-loop μ-loop
+loop-less c =
+    let l = walk-line _ _ _ (c .before .before .loop .inv) _ (c .before .find .ensures) in
+    omega (arith, l .later, c .if1 .left)
+
+loop-again : tie.Need-loop-again Inv-loop μ-loop
+loop-again c = walk-newline _ _ _ (c .before .before .loop .inv) _ (c .before .find .ensures) (c .if1 .left)
 
 pub walk-spec : {M : Type 1} → statement M
 walk-spec =
     tie.close
     (tie.spec
-    sub-no-newline
-    part-no-newline-start
-    part-no-newline-end
-    no-newline-requires
-    sub-t10
-    add-t11
+    Inv-loop
+    μ-loop
+    slice-aggregate-s
+    loop-holds
+    find-requires
+    sub-column
+    add-column
     returns
-    walk-bytes-requires
-    returns-2)
+    add-offset
+    add-line
+    loop-less
+    loop-again)

@@ -1,21 +1,25 @@
--- One digit, and one byte of the digits, by the tests that the code makes. Assumes nothing.
-use mathlib.Core.Path.{_≡_, refl, ap, _∙_}
-use mathlib.Core.Bool.{Bool, true, false, not, _&&_}
-use mathlib.Core.List.{List}
-use Prim.Native.Nat.{ℕ, _+_, _≤_, _<_}
+-- The digits of a fraction by the tests that the code makes: those that are kept, those that are dropped, and the scale. Assumes nothing.
+use mathlib.Core.Path.{_≡_, refl, sym, ap, _∙_, subst}
+use mathlib.Core.Logic.{inl, inr}
+use mathlib.Core.Bool.{Bool, true, false, _&&_}
+use mathlib.Core.List.{List, [], _∷_}
+use Prim.Native.Nat.{ℕ, zero, suc, _+_, _≤_, _<_, zero-le}
+use native.Mathlib.Nat.{le-refl, eq-or-lt-of-le, le-of-suc-le-suc, add-zero}
 use native.Mathlib.Numerals.{add-one}
 use native.Mathlib.Omega.{arith}
-use lib.Dec.{leb}
-use lib.Ieee.{Float, binary64, mul, ofBits}
-use lib.ListN.{length, drop, drop-of-length-le}
-use lib.Seq.{drop-cons}
-use borrow.Author.Tests.{le-leb, lt-leb}
+use lib.Dec.{ltb, leb}
+use lib.Ieee.{Float, inf, binary64, mul, ofBits}
+use lib.ListN.{length, drop}
+use lib.Seq.{drop-cons, getD-drop}
+use borrow.Author.Tests.{lt-ltb, le-ltb, leb-true}
 use Rattle.base.specs.Choice.{pick}
 use Rattle.base.specs.Bytes.{byte}
 use Rattle.base.specs.Classes.{isDigit}
-use Rattle.base.proofs.Tests.{and-false, within-low, within-high}
-use Rattle.go_duration.specs.Fraction.{most, scaleOf, ten, more, room, Acc, acc, addDigit, readDigits}
-use Rattle.go_duration.specs.Stages.{fractionOf, accOf}
+use Rattle.base.specs.Runs.{run, reach}
+use Rattle.base.proofs.Tests.{and-left, and-right, in-text, within-low, within-high}
+use Rattle.go_duration.specs.Fraction.{most, scaleOf, ten, more, room, Acc, acc, noDigits, addDigit, readDigits}
+use Rattle.go_duration.specs.Parse.{inDigits}
+use Rattle.go_duration.specs.Stages.{fractionOf, accOf, KeptTo, keepsAt}
 use Rattle.go_duration.specs.declared.fraction.Fraction.{Fraction}
 
 -- ---- one digit
@@ -23,41 +27,113 @@ pub digit-range : (b : ℕ) → isDigit b ≡ true → (48 ≤ b) × (b ≤ 57)
 unfolding isDigit
 digit-range b e = (within-low 48 57 b e, within-high 48 57 b e)
 
-module _ (f k n : ℕ) (o : Bool) (b : ℕ) where
-  pub add-over : o ≡ true → acc f k (n + 1) true ≡ addDigit (acc f k n o) b
-  unfolding addDigit
-  add-over e = rw e
+no-digit : isDigit 0 ≡ false
+unfolding isDigit
+no-digit = refl
 
-  pub add-large : o ≡ false → 922337203685477580 < f → acc f k (n + 1) true ≡ addDigit (acc f k n o) b
-  unfolding addDigit
-  add-large e h = rw (e, lt-leb f 922337203685477580 h)
+-- ---- the digits that are dropped, which are counted alone
+read-over : (l : List ℕ) (f k n : ℕ) → readDigits l (acc f k n true) ≡ acc f k (n + run inDigits l) true
+unfolding readDigits addDigit run
+read-over [] f k n = rw (add-zero n)
+read-over (b ∷ bs) f k n = go (isDigit b) (read-over bs f k (n + 1))
+  where
+    go : (x : Bool) → readDigits bs (acc f k (n + 1) true) ≡ acc f k (n + 1 + run inDigits bs) true
+        → pick x (readDigits bs (acc f k (n + 1) true)) (acc f k n true) ≡ acc f k (n + pick x (suc (run inDigits bs)) 0) true
+    go true h = let z : n + suc (run inDigits bs) ≡ n + 1 + run inDigits bs = omega arith in rw z h
+    go false h = rw (add-zero n)
 
-  pub add-full : o ≡ false → most < more f b → acc f k (n + 1) true ≡ addDigit (acc f k n o) b
-  unfolding addDigit
-  add-full e h = rw (e, lt-leb (more f b) most h, and-false (leb f 922337203685477580))
+-- from a byte on that is not kept
+read-stop : (l : List ℕ) (f n : ℕ) → isDigit (byte l 0) && room f (byte l 0) ≡ false
+    → readDigits l (acc f n n false) ≡ acc f n (n + run inDigits l) (ltb n (n + run inDigits l))
+unfolding readDigits addDigit run
+read-stop [] f n e = rw (add-zero n, le-ltb n n (le-refl n))
+read-stop (b ∷ bs) f n e = go (isDigit b) e
+  where
+    go : (x : Bool) → x && room f b ≡ false
+        → pick x (readDigits bs (addDigit (acc f n n false) b)) (acc f n n false)
+        ≡ acc f n (n + pick x (suc (run inDigits bs)) 0) (ltb n (n + pick x (suc (run inDigits bs)) 0))
+    go true e =
+        let z : n + suc (run inDigits bs) ≡ n + 1 + run inDigits bs = omega arith in
+        rw (e, z, lt-ltb n (n + 1 + run inDigits bs) (omega arith)) (read-over bs f n (n + 1))
+    go false e = rw (add-zero n, le-ltb n n (le-refl n))
 
-  pub add-keep : o ≡ false → f ≤ 922337203685477580 → more f b ≤ most → acc (more f b) (k + 1) (n + 1) false ≡ addDigit (acc f k n o) b
-  unfolding addDigit
-  add-keep e h l = rw (e, le-leb f 922337203685477580 h, le-leb (more f b) most l)
+-- ---- the digits that are kept
+pub record Keeps (s : List ℕ) (i f : ℕ) : Type 0 where
+  pub inside : i < length s
+  pub digit : isDigit (byte s i) ≡ true
+  pub room : room f (byte s i) ≡ true
+  pub low : 48 ≤ byte s i
+  pub high : byte s i ≤ 57
+  pub small : f ≤ 922337203685477580
+
+pub keeps-told : (s : List ℕ) (i f : ℕ) → keepsAt s i f ≡ true → Keeps s i f
+keeps-told s i f e =
+    let b : ℕ = byte s i in
+    let d : isDigit b ≡ true = and-left _ _ e in
+    let r : room f b ≡ true = and-right (isDigit b) _ e in
+    let g = digit-range b d in
+    record {
+      inside = in-text isDigit s i no-digit d;
+      digit = d;
+      room = r;
+      low = g .0;
+      high = g .1;
+      small = leb-true f 922337203685477580 (and-left _ (leb (more f b) most) r);
+    }
+
+pub kept-first : (s : List ℕ) → KeptTo s 0 0
+kept-first s = record { inside = zero-le; ran = refl }
+
+module _ (s : List ℕ) (i f : ℕ) (u : KeptTo s i f) where
+  pub kept-more : keepsAt s i f ≡ true → KeptTo s (i + 1) (more f (byte s i))
+  unfolding readDigits addDigit
+  kept-more e =
+      let k = keeps-told s i f e in
+      let h : i < length s = k .inside in
+      let c : drop i s ≡ byte s i ∷ drop (i + 1) s = rw (add-one, drop-cons s i 0) in
+      record { inside = omega arith; ran = rw (c, k .digit, k .room) at (u .ran) }
+
+  -- where none more is, the digits from i on are counted alone
+  pub kept-all : keepsAt s i f ≡ false → (n : ℕ) → n ≡ reach inDigits s i → acc f i n (ltb i n) ≡ readDigits s noDigits
+  unfolding reach
+  kept-all e n q =
+      let z : byte (drop i s) 0 ≡ byte s i = rw (getD-drop, add-zero) in
+      rw q (sym (read-stop (drop i s) f i (rw z e)) ∙ u .ran)
+
+pub kept-zero : (s : List ℕ) (i : ℕ) → KeptTo s i 0 → byte s i ≡ 48 → KeptTo s (i + 1) 0
+unfolding isDigit
+kept-zero s i u e = rw e at (kept-more s i 0 u (rw e))
+
+-- ---- the scale
 
 -- 10.0 as MIR has it, by its bit pattern
 pub scale-step : (x : Float) (i : ℕ) → x ≡ scaleOf i → mul binary64 x (ofBits binary64 0x4024_0000_0000_0000) ≡ scaleOf (i + 1)
 unfolding ofBits scaleOf
 scale-step x i e = rw add-one (ap (λ (z : Float). mul binary64 z ten) e)
 
--- ---- one byte
-module _ (s : List ℕ) (i : ℕ) (a : Acc) where
-  pub read-digit : i < length s → isDigit (byte s i) ≡ true → readDigits (drop i s) a ≡ readDigits (drop (i + 1) s) (addDigit a (byte s i))
-  unfolding readDigits
-  read-digit h e = rw (drop-cons s i 0 h, e, add-one)
+scale-309 : scaleOf 309 ≡ inf false
+unfolding scaleOf mul
+scale-309 = refl
 
-  pub read-stop : i < length s → isDigit (byte s i) ≡ false → a ≡ readDigits (drop i s) a
-  unfolding readDigits
-  read-stop h e = rw (drop-cons s i 0 h, e)
+inf-ten : mul binary64 (inf false) ten ≡ inf false
+unfolding mul
+inf-ten = refl
 
-  pub read-end : length s ≤ i → a ≡ readDigits (drop i s) a
-  unfolding readDigits
-  read-end h = rw (drop-of-length-le s h)
+-- from 309 on it is infinite
+infinite : (k : ℕ) → 309 ≤ k → scaleOf k ≡ inf false
+unfolding scaleOf
+infinite zero h = absurd (none h)
+  where
+    none : 309 ≤ 0 → ⊥
+    none h = omega arith
+infinite (suc k) h =
+    elim (eq-or-lt-of-le h) [
+      | inl e ↦ subst (λ (j : ℕ). scaleOf j ≡ inf false) e scale-309
+      | inr l ↦ rw (infinite k (le-of-suc-le-suc l)) inf-ten
+    ]
+
+pub scale-stays : (i k : ℕ) → i ≡ 309 → i ≤ k → scaleOf i ≡ scaleOf k
+scale-stays i k e h = infinite i (omega arith) ∙ sym (infinite k (omega arith))
 
 -- ---- a fraction as the code has it
 pub fraction-is : (d : Fraction) (a : Acc) → accOf d ≡ a → d .scale ≡ scaleOf (d .kept) → d ≡ fractionOf a
@@ -75,17 +151,3 @@ acc-is d a e = ap accOf e ∙ back a
   where
     back : (a : Acc) → accOf (fractionOf a) ≡ a
     back (acc f k n o) = refl
-
--- what a digit changes
-pub record Grown (d r : Fraction) : Type 0 where
-  pub kept-more : r .kept ≤ d .kept + 1
-  pub count-more : r .count ≡ d .count + 1
-  pub scale-kept : r .scale ≡ scaleOf (r .kept)
-
-pub grown : (d r : Fraction) (b : ℕ) → r ≡ fractionOf (addDigit (accOf d) b) → Grown d r
-unfolding addDigit
-grown d r b e = rw e (go (not (d .over) && room (d .f) b))
-  where
-    go : (t : Bool) → Grown d (fractionOf (pick t (acc (more (d .f) b) (d .kept + 1) (d .count + 1) false) (acc (d .f) (d .kept) (d .count + 1) true)))
-    go true = record { kept-more = omega arith; count-more = refl; scale-kept = refl }
-    go false = record { kept-more = omega arith; count-more = refl; scale-kept = refl }

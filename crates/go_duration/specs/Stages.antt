@@ -1,15 +1,16 @@
 -- What the stages of `parse` answer, in the terms of Fraction and Parse: the contracts of the functions below it.
 use mathlib.Core.Path.{_≡_}
-use mathlib.Core.Bool.{Bool, _||_}
+use mathlib.Core.Bool.{Bool, false, _&&_, _||_}
 use mathlib.Core.List.{List, [], _∷_}
-use Prim.Native.Nat.{ℕ, _+_, _*_}
+use Prim.Native.Nat.{ℕ, _+_, _*_, _≤_}
 use lib.Dec.{ltb, eqb}
 use lib.IntN.{pos}
 use lib.ListN.{length, take, drop}
 use Rattle.base.specs.Choice.{pick}
 use Rattle.base.specs.Bytes.{byte, sameBytes}
+use Rattle.base.specs.Classes.{isDigit}
 use Rattle.base.specs.Runs.{reach}
-use Rattle.go_duration.specs.Fraction.{most, scaleOf, Acc, acc, noDigits, readDigits, fracOf}
+use Rattle.go_duration.specs.Fraction.{most, scaleOf, room, Acc, acc, noDigits, readDigits, fracOf}
 use Rattle.go_duration.specs.Digits.{countOf}
 use Rattle.go_duration.specs.Units.{unitOf}
 use Rattle.go_duration.specs.Parse.{inUnit, wholeEnd, wholeOf, sumFrom, finish}
@@ -36,6 +37,15 @@ accOf d = acc (d .f) (d .kept) (d .count) (d .over)
 pub record ReadOf (d : Fraction) : Type 0 where
   pub text : List ℕ
   pub same : d ≡ fractionOf (readDigits text noDigits)
+
+-- the first i bytes of s are digits, all of them kept, and form f
+pub record KeptTo (s : List ℕ) (i f : ℕ) : Type 0 where
+  pub inside : i ≤ length s
+  pub ran : readDigits (drop i s) (acc f i i false) ≡ readDigits s noDigits
+
+-- whether a digit stands at i that is kept after f
+abbrev pub keepsAt : List ℕ → ℕ → ℕ → Bool
+keepsAt s i f = isDigit (byte s i) && room f (byte s i)
 
 -- ---- one part
 

@@ -1,11 +1,14 @@
 // The fraction of a duration: its digits, and its nanoseconds in floating point.
 use crate::MOST;
 ghost use mathlib.Core.Path.{_≡_};
-ghost use mathlib.Core.Bool.{true};
-ghost use Prim.Native.Nat.{_+_, _^_, _<_, _≤_};
-ghost use Rattle.go_duration.specs.Fraction.{scaleOf, nanosOf, fracOf, noDigits, addDigit, readDigits};
+ghost use Rattle.base.specs.Runs.{reach};
+ghost use Rattle.go_duration.specs.Fraction.{scaleOf, nanosOf, fracOf, noDigits, readDigits};
 ghost use Rattle.go_duration.specs.Digits.{Proper, UnitNanos};
-ghost use Rattle.go_duration.specs.Stages.{accOf, fractionOf, ReadOf};
+ghost use Rattle.go_duration.specs.Parse.{inDigits};
+ghost use Rattle.go_duration.specs.Stages.{accOf, fractionOf, ReadOf, KeptTo, keepsAt};
+
+// 1.0 multiplied so many times by 10.0 is infinite.
+const INFINITE: usize = 309;
 
 // What has been read of a fraction's digits: the number that the kept ones form, how many those
 // are, how many digits there are, whether some were dropped, and 1.0 multiplied `kept` times by
@@ -28,45 +31,6 @@ impl Fraction {
             count: 0,
             over: false,
             scale: 1.0,
-        }
-    }
-
-    // One digit more, which is not kept.
-    fn dropped(self) -> Self
-        requires { ⌜ self .count + 1 < 2 ^ 64 ⌝ }
-        ensures { λ r. ⌜ r ≡ record { f = self .f; kept = self .kept; count = self .count + 1; over = true; scale = self .scale } ⌝ }
-    {
-        Self {
-            f: self.f,
-            kept: self.kept,
-            count: self.count + 1,
-            over: true,
-            scale: self.scale,
-        }
-    }
-
-    // One digit more, the byte `c`: kept unless one of the tests finds an overflow.
-    fn digit(self, c: u8) -> Self
-        requires { ⌜ self .scale ≡ scaleOf (self .kept) ⌝ ∗ ⌜ (self .kept ≤ self .count) × (self .count + 1 < 2 ^ 64) ⌝ ∗ ⌜ (48 ≤ c) × (c ≤ 57) ⌝ }
-        ensures { λ r. ⌜ r ≡ fractionOf (addDigit (accOf self) c) ⌝ }
-    {
-        let f = self.f;
-        if self.over {
-            return self.dropped();
-        }
-        if f > MOST / 10 {
-            return self.dropped();
-        }
-        let y = f * 10 + ((c - b'0') as u64);
-        if y > MOST {
-            return self.dropped();
-        }
-        Self {
-            f: y,
-            kept: self.kept + 1,
-            count: self.count + 1,
-            over: false,
-            scale: self.scale * 10.0,
         }
     }
 
@@ -95,19 +59,83 @@ fn nanos_of(f: u64, k: usize, scale: f64, unit: u64) -> u64
     std::num::truncating_f64_to_u64(product)
 }
 
-// Go's `leadingFraction`: the digits at the front of `s`.
+// How many zeros stand at the front of `s`. They are kept, and form 0.
+fn zeros(s: &[u8]) -> usize
+    ensures { λ r. ⌜ KeptTo (now (s .entry)) r 0 ⌝ }
+{
+    let mut i = 0;
+    while i < s.len() {
+        if s[i] != b'0' {
+            return i;
+        }
+        i += 1;
+    }
+    i
+}
+
+// 1.0 multiplied `k` times by 10.0, up to infinity.
+fn scale_of(k: usize) -> f64
+    ensures { λ r. ⌜ r ≡ scaleOf k ⌝ }
+{
+    let mut scale = 1.0;
+    let mut i = 0;
+    while i < k {
+        if i == INFINITE {
+            return scale;
+        }
+        scale = scale * 10.0;
+        i += 1;
+    }
+    scale
+}
+
+// Whether a digit stands at `i` that is kept after those that form `f`.
+fn keeps(s: &[u8], i: usize, f: u64) -> bool
+    ensures { λ r. ⌜ r ≡ keepsAt (now (s .entry)) i f ⌝ }
+{
+    let c = base::peek(s, i);
+    if !base::class::is_digit(c) {
+        return false;
+    }
+    if f > MOST / 10 {
+        return false;
+    }
+    f * 10 + ((c - b'0') as u64) <= MOST
+}
+
+// The end of the digits from `at` on.
+fn digits_end(s: &[u8], at: usize) -> usize
+    ensures { λ r. ⌜ r ≡ reach inDigits (now (s .entry)) at ⌝ }
+{
+    let mut i = at;
+    while i < s.len() {
+        if !base::class::is_digit(s[i]) {
+            return i;
+        }
+        i += 1;
+    }
+    i
+}
+
+// Go's `leadingFraction`: the digits at the front of `s`. The zeros there, which may be many, need no
+// sums, and neither do the digits that are not kept.
 pub fn leading_fraction(s: &[u8]) -> Fraction
     ensures { λ r. ⌜ r ≡ fractionOf (readDigits (now (s .entry)) noDigits) ⌝ }
 {
-    let mut a = Fraction::start();
-    let mut i = 0;
-    while i < s.len() {
-        let c = s[i];
-        if !base::class::is_digit(c) {
-            return a;
-        }
-        a = a.digit(c);
-        i += 1;
+    let mut kept = zeros(s);
+    let mut scale = scale_of(kept);
+    let mut f: u64 = 0;
+    while keeps(s, kept, f) {
+        f = f * 10 + ((s[kept] - b'0') as u64);
+        scale = scale * 10.0;
+        kept += 1;
     }
-    a
+    let count = digits_end(s, kept);
+    Fraction {
+        f,
+        kept,
+        count,
+        over: kept < count,
+        scale,
+    }
 }

@@ -1,16 +1,17 @@
--- Runs a block at a time: bytes that all pass a test of their own stay in the run, by one byte after the other. Assumes nothing.
+-- Runs a block at a time: bytes that all pass, by a test of their own or with the byte after them, stay in the run, by one byte after the
+-- other. Assumes nothing.
 use mathlib.Core.Path.{_≡_, refl, sym, _∙_}
 use mathlib.Core.Bool.{Bool, true, _&&_, and-assoc, and-true}
-use mathlib.Core.List.{List}
+use mathlib.Core.List.{List, [], _∷_}
 use Prim.Native.Nat.{ℕ, zero, suc, _+_, _-_, _≤_, _<_}
-use native.Mathlib.Nat.{add-zero}
+use native.Mathlib.Nat.{add-zero, le-of-suc-le-suc, not-suc-le-zero}
 use native.Mathlib.Numerals.{add-one}
 use native.Mathlib.Omega.{arith}
-use lib.ListN.{length, take, drop, drop-of-length-le}
+use lib.ListN.{length, take, drop, length-drop, drop-of-length-le}
 use lib.Seq.{drop-cons}
 use Rattle.base.specs.Bytes.{byte}
 use Rattle.base.specs.Runs.{reach}
-use Rattle.base.specs.Blocks.{allPass, Ahead}
+use Rattle.base.specs.Blocks.{allPass, allPairs, Ahead}
 use Rattle.base.proofs.Reaches.{reach-step}
 use Rattle.base.proofs.Tests.{and-left, and-right}
 
@@ -23,6 +24,27 @@ module _ (t : ℕ → Bool) (s : List ℕ) (all : Bool) (i : ℕ) (u : all && al
   pub all-end : length s ≤ i → all ≡ allPass t s
   unfolding allPass
   all-end h = sym (and-true all) ∙ (rw (drop-of-length-le s h) at u)
+
+-- one byte has no pair
+short : (p : ℕ → ℕ → Bool) (s : List ℕ) → length s ≤ 1 → allPairs p s ≡ true
+unfolding allPairs
+short p [] h = refl
+short p (a ∷ []) h = refl
+short p (a ∷ b ∷ s) h = absurd (not-suc-le-zero (le-of-suc-le-suc h))
+
+-- the same of pairs: the byte before i begins what is left
+module _ (p : ℕ → ℕ → Bool) (s : List ℕ) (all : Bool) (i : ℕ) (u : all && allPairs p (drop (i - 1) s) ≡ allPairs p s) where
+  pub pairs-turn : 0 < i → i < length s → (all && p (byte s (i - 1)) (byte s i)) && allPairs p (drop (i + 1 - 1) s) ≡ allPairs p s
+  unfolding allPairs
+  pairs-turn g h =
+      let a : suc (i - 1) ≡ i = omega arith in
+      let b : i + 1 - 1 ≡ i = omega arith in
+      let c : drop i s ≡ byte s i ∷ drop (suc i) s = drop-cons s i 0 h in
+      let d : drop (i - 1) s ≡ byte s (i - 1) ∷ byte s i ∷ drop (suc i) s = drop-cons s (i - 1) 0 (omega arith) ∙ rw (a, c) in
+      rw (b, c, and-assoc all (p (byte s (i - 1)) (byte s i)) (allPairs p (byte s i ∷ drop (suc i) s))) (rw d at u)
+
+  pub pairs-end : length s ≤ i → all ≡ allPairs p s
+  pairs-end h = sym (and-true all) ∙ (rw (short p (drop (i - 1) s) (omega (arith, length-drop (i - 1) s))) at u)
 
 pub ahead-first : (p : ℕ → ℕ → Bool) (s : List ℕ) (i : ℕ) → i ≤ length s → Ahead p s i i
 ahead-first p s i h = record { later = omega arith; inside = h; same = refl }
@@ -48,3 +70,26 @@ module _ (t : ℕ → Bool) (p : ℕ → ℕ → Bool) (sure : (a b : ℕ) → t
       let z : i + n - i ≡ n = omega arith in
       let f : allPass t (take n (drop i s)) ≡ true = sym (rw z at e) ∙ y in
       record { later = omega (arith, u .later); inside = omega (arith, u .inside); same = block s n i (omega (arith, u .inside)) f ∙ u .same }
+
+-- the same of pairs
+module _ (p : ℕ → ℕ → Bool) where
+  -- n bytes from i on, each with the one after it
+  pairs : (s : List ℕ) (n i : ℕ) → i + n < length s → allPairs p (take (suc n) (drop i s)) ≡ true → reach p s (i + n) ≡ reach p s i
+  unfolding allPairs
+  pairs s zero i h e = rw (add-zero i)
+  pairs s (suc n) i h e =
+      let l : suc i < length s = omega arith in
+      let c : drop (suc i) s ≡ byte s (suc i) ∷ drop (suc (suc i)) s = drop-cons s (suc i) 0 l in
+      let d : drop i s ≡ byte s i ∷ byte s (suc i) ∷ drop (suc (suc i)) s = drop-cons s i 0 (omega arith) ∙ rw c in
+      let a : Bool = p (byte s i) (byte s (i + 1)) in
+      let f : a && allPairs p (take (suc n) (drop (i + 1) s)) ≡ true = rw (add-one i, c) (rw d at e) in
+      let q : i + suc n ≡ i + 1 + n = omega arith in
+      let o = and-left a (allPairs p (take (suc n) (drop (i + 1) s))) f in
+      rw q (pairs s n (i + 1) (omega arith) (and-right a (allPairs p (take (suc n) (drop (i + 1) s))) f) ∙ reach-step p s i (omega arith) o)
+
+  pub ahead-pairs : (s : List ℕ) (at i n : ℕ) → Ahead p s at i → n < length s - i → (b : Bool) → b ≡ allPairs p (take (i + n + 1 - i) (drop i s)) → b ≡ true
+      → Ahead p s at (i + n)
+  ahead-pairs s at i n u h b e y =
+      let z : i + n + 1 - i ≡ suc n = omega arith in
+      let f : allPairs p (take (suc n) (drop i s)) ≡ true = sym (rw z at e) ∙ y in
+      record { later = omega (arith, u .later); inside = omega (arith, u .inside); same = pairs s n i (omega (arith, u .inside)) f ∙ u .same }

@@ -12,6 +12,12 @@ unfoldable pub allPass : (ℕ → Bool) → List ℕ → Bool
 allPass t [] = true
 allPass t (a ∷ s) = t a && allPass t s
 
+-- the test holds of each byte and the one after it; of the last byte it is not asked
+unfoldable pub allPairs : (ℕ → ℕ → Bool) → List ℕ → Bool
+allPairs p [] = true
+allPairs p (a ∷ []) = true
+allPairs p (a ∷ b ∷ s) = p a b && allPairs p (b ∷ s)
+
 -- any byte but c
 abbrev pub isNot : ℕ → ℕ → Bool
 isNot c a = not (eqb a c)

@@ -1,6 +1,5 @@
 pub mod Flats
 pub mod Runs
-mod Surely
 pub mod Stops
 pub mod Goes
 pub mod Scanned

@@ -1,5 +1,5 @@
 -- The runs of bytes that lexer.rs knows: each test sees a byte and the one after it.
-use mathlib.Core.Bool.{Bool, false, not, _&&_, _||_}
+use mathlib.Core.Bool.{Bool, not, _&&_, _||_}
 use mathlib.Core.List.{List}
 use Prim.Native.Nat.{ℕ}
 use lib.Dec.{eqb}
@@ -23,15 +23,6 @@ inRun run.Body a b = not (eqb a 42 && eqb b 47)
 inRun run.Name a b = isIdentPart a
 inRun run.Digits a b = isDigit a
 inRun run.Stamp a b = not (endsTimestamp a b)
-
--- whether a byte belongs to a run, whatever byte comes after it; of a timestamp this is not asked
-unfoldable pub surelyIn : Run → ℕ → Bool
-surelyIn run.Blank a = isSpace a
-surelyIn run.Line a = not (eqb a 10)
-surelyIn run.Body a = not (eqb a 42)
-surelyIn run.Name a = isIdentPart a
-surelyIn run.Digits a = isDigit a
-surelyIn run.Stamp a = false
 
 -- `lex_duration`: the piece of a duration at the front: a digit, a lower-case letter, a point before a digit; U+00B5. U+03BC is none
 unfoldable pub unitPiece : List ℕ → ℕ

@@ -2,9 +2,9 @@
 ghost use mathlib.Core.Path.{_≡_};
 ghost use Prim.Native.Nat.{_≤_};
 ghost use lib.ListN.{length};
-ghost use Rattle.base.specs.Blocks.{allPass, Ahead};
+ghost use Rattle.base.specs.Blocks.{allPairs, Ahead};
 ghost use Rattle.base.specs.Runs.{reach, past};
-ghost use Rattle.scan.specs.Run.{endsTimestamp, inRun, surelyIn, unitPiece};
+ghost use Rattle.scan.specs.Run.{endsTimestamp, inRun, unitPiece};
 use base::class::is_digit;
 use base::class::is_ident_part;
 use base::class::is_lower_alpha;
@@ -53,45 +53,32 @@ fn in_run(k: Run, a: u8, b: u8) -> bool
     }
 }
 
-// Whether the byte belongs to the run, whatever byte comes after it. Timestamps are short, and not tested so.
-fn surely_in(k: Run, a: u8) -> bool
-    ensures { λ r. ⌜ r ≡ surelyIn k a ⌝ }
-{
-    match k {
-        Run::Blank => is_space(a),
-        Run::Line => a != b'\n',
-        Run::Body => a != b'*',
-        Run::Name => is_ident_part(a),
-        Run::Digits => is_digit(a),
-        Run::Stamp => false,
-    }
-}
-
 // How many bytes a block has.
 const BLOCK: usize = 16;
 
-// Whether all bytes surely belong to the run. It looks at every byte, so that several can be tested by one instruction.
+// Whether each byte but the last belongs to the run. It looks at every byte, so that several can be tested by one instruction.
 fn all_in(k: Run, s: &[u8]) -> bool
-    ensures { λ r. ⌜ r ≡ allPass (surelyIn k) (now (s .entry)) ⌝ }
+    ensures { λ r. ⌜ r ≡ allPairs (inRun k) (now (s .entry)) ⌝ }
 {
     let mut all = true;
-    let mut i = 0;
+    let mut i = 1;
     while i < s.len() {
-        all = all & surely_in(k, s[i]);
+        all = all & in_run(k, s[i - 1], s[i]);
         i += 1;
     }
     all
 }
 
-// The end of the blocks from `at` on that belong to the run.
+// The end of the blocks from `at` on that belong to the run. Each is tested with the byte after it.
 fn past_blocks(k: Run, s: &[u8], at: usize) -> usize
     requires { ⌜ at ≤ length (now s) ⌝ }
     ensures { λ r. ⌜ Ahead (inRun k) (now (s .entry)) at r ⌝ }
 {
     let mut i = at;
-    while BLOCK <= s.len() - i {
+    while BLOCK < s.len() - i {
         let end = i + BLOCK;
-        if !all_in(k, &s[i..end]) {
+        let next = end + 1;
+        if !all_in(k, &s[i..next]) {
             return i;
         }
         i = end;
@@ -99,19 +86,19 @@ fn past_blocks(k: Run, s: &[u8], at: usize) -> usize
     i
 }
 
-// The end of the run that starts at `at`, for runs that are often long: blocks are tried at every sixteenth byte.
+// The end of the run that starts at `at`, for runs that are often long.
 pub fn reach_long(k: Run, s: &[u8], at: usize) -> usize
     ensures { λ r. ⌜ r ≡ reach (inRun k) (now (s .entry)) at ⌝ }
 {
-    let mut i = at;
+    if s.len() < at {
+        return at;
+    }
+    let mut i = past_blocks(k, s, at);
     while i < s.len() {
         if in_run(k, s[i], base::peek(s, i + 1)) {
             i += 1;
         } else {
             return i;
-        }
-        if i % BLOCK == 0 {
-            i = past_blocks(k, s, i);
         }
     }
     i
@@ -129,7 +116,8 @@ pub fn reach_run(k: Run, s: &[u8], at: usize) -> usize
             return i;
         }
         if i % BLOCK == 0 {
-            return reach_long(k, s, i);
+            // a slice of its own, so that `s` itself stays in registers
+            return reach_long(k, &s[0..], i);
         }
     }
     i

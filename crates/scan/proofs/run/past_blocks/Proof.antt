@@ -1,10 +1,9 @@
--- `past_blocks` meets its contract: a block of bytes that surely belong to the run stays in it. Assumes nothing.
+-- `past_blocks` meets its contract: a block whose pairs all pass stays in the run. Assumes nothing.
 use Prim.Native.Nat.{_-_}
 use lib.ListN.{length}
 use Rattle.base.specs.Blocks.{Ahead}
-use Rattle.base.proofs.Blocks.{ahead-first, ahead-block}
-use Rattle.scan.specs.Run.{inRun, surelyIn}
-use Rattle.scan.proofs.Surely.{surely}
+use Rattle.base.proofs.Blocks.{ahead-first, ahead-pairs}
+use Rattle.scan.specs.Run.{inRun}
 use borrow.Author.Needs.{needs}
 use borrow.Author.Tests.{not-false}
 use Rattle.scan.proofs.run.past_blocks.Statement.{statement}
@@ -24,6 +23,9 @@ sub-loop c = search needs
 
 add-end : tie.Need-add-end Inv-loop μ-loop
 add-end c = search needs
+
+add-next : tie.Need-add-next Inv-loop μ-loop
+add-next c = search needs
 
 sub-all-in : tie.Need-sub-all-in Inv-loop μ-loop
 sub-all-in c = search needs
@@ -46,7 +48,7 @@ loop-less c = search needs
 loop-again : tie.Need-loop-again Inv-loop μ-loop
 loop-again c =
     let b = c .before .before .before in
-    ahead-block (surelyIn _) (inRun _) (surely _) _ _ _ _ (b .before .loop .inv) (b .loop-test .taken) _ (c .before .all-in .ensures) (not-false _ (c .if1 .left))
+    ahead-pairs (inRun _) _ _ _ _ (b .before .loop .inv) (b .loop-test .taken) _ (c .before .all-in .ensures) (not-false _ (c .if1 .left))
 
 returns-2 : tie.Need-returns-2 Inv-loop μ-loop
 returns-2 c = search needs
@@ -60,6 +62,7 @@ past-blocks-spec =
     loop-holds
     sub-loop
     add-end
+    add-next
     sub-all-in
     part-all-in-start
     part-all-in-end

@@ -1,5 +1,5 @@
 -- `reach_long` meets its contract: the run from here has the end that the run from `at` has. Assumes nothing.
-use mathlib.Core.Path.{_≡_, refl, sym, _∙_}
+use mathlib.Core.Path.{_≡_, sym, _∙_}
 use Prim.Native.Nat.{_-_}
 use native.Mathlib.Omega.{arith}
 use borrow.Author.Needs.{needs}
@@ -16,8 +16,14 @@ Inv-loop k s at i₀ i = reach (inRun k) s i ≡ reach (inRun k) s at
 abbrev μ-loop : tie.MeasureT-loop
 μ-loop k s at i₀ i = length s - i
 
+returns : tie.Need-returns Inv-loop μ-loop
+returns c = sym (reach-end (inRun _) _ _ (omega (arith, c .if1 .taken)))
+
+past-blocks-requires : tie.Need-past-blocks-requires Inv-loop μ-loop
+past-blocks-requires c κs = search needs
+
 loop-holds : tie.Need-loop-holds Inv-loop μ-loop
-loop-holds c = refl
+loop-holds c = c .past-blocks .ensures .same
 
 shared-slice-read-in-run : tie.Need-shared-slice-read-in-run Inv-loop μ-loop
 shared-slice-read-in-run c = search needs
@@ -34,32 +40,21 @@ in-run-requires c κs = search needs
 add-i : tie.Need-add-i Inv-loop μ-loop
 add-i c = search needs
 
-returns : tie.Need-returns Inv-loop μ-loop
-returns c =
-    let b = c .before .before .before .before in
-    sym (reach-stop (inRun _) _ _ (b .loop-test .taken) (cc)) ∙ b .before .loop .inv
-
-past-blocks-requires : tie.Need-past-blocks-requires Inv-loop μ-loop
-past-blocks-requires c κs = search needs
-
 loop-less : tie.Need-loop-less Inv-loop μ-loop
-loop-less c = omega (arith, c .past-blocks .ensures .later, c .before .before .before .before .before .before .loop-test .taken)
+loop-less c = search needs
 
 loop-again : tie.Need-loop-again Inv-loop μ-loop
 loop-again c =
-    let b = c .before .before .before .before .before .before in
-    c .past-blocks .ensures .same ∙ (reach-step (inRun _) _ _ (b .loop-test .taken) (cc) ∙ b .before .loop .inv)
-
-loop-less-2 : tie.Need-loop-less-2 Inv-loop μ-loop
-loop-less-2 c = search needs
-
-loop-again-2 : tie.Need-loop-again-2 Inv-loop μ-loop
-loop-again-2 c =
-    let b = c .before .before .before .before .before in
+    let b = c .before .before .before .before in
     reach-step (inRun _) _ _ (b .loop-test .taken) (cc) ∙ b .before .loop .inv
 
 returns-2 : tie.Need-returns-2 Inv-loop μ-loop
-returns-2 c = sym (reach-end (inRun _) _ _ (c .loop-test .left)) ∙ c .before .loop .inv
+returns-2 c =
+    let b = c .before .before .before .before in
+    sym (reach-stop (inRun _) _ _ (b .loop-test .taken) (cc)) ∙ b .before .loop .inv
+
+returns-3 : tie.Need-returns-3 Inv-loop μ-loop
+returns-3 c = sym (reach-end (inRun _) _ _ (c .loop-test .left)) ∙ c .before .loop .inv
 
 pub reach-long-spec : {M : Type 1} → statement M
 reach-long-spec =
@@ -67,16 +62,15 @@ reach-long-spec =
     (tie.spec
     Inv-loop
     μ-loop
+    returns
+    past-blocks-requires
     loop-holds
     shared-slice-read-in-run
     add-peek
     peek-requires
     in-run-requires
     add-i
-    returns
-    past-blocks-requires
     loop-less
     loop-again
-    loop-less-2
-    loop-again-2
-    returns-2)
+    returns-2
+    returns-3)

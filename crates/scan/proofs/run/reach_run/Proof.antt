@@ -5,7 +5,7 @@ use native.Mathlib.Omega.{arith}
 use borrow.Author.Needs.{needs}
 use lib.ListN.{length}
 use Rattle.base.specs.Runs.{reach}
-use Rattle.base.proofs.Reaches.{reach-step, reach-stop, reach-end}
+use Rattle.base.proofs.Reaches.{reach-step, reach-stop, reach-end, rest-is}
 use Rattle.scan.specs.Run.{inRun}
 use Rattle.scan.proofs.run.reach_run.Statement.{statement}
 use Rattle.scan.proofs.run.reach_run.Tie as tie
@@ -39,13 +39,22 @@ returns c =
     let b = c .before .before .before .before in
     sym (reach-stop (inRun _) _ _ (b .loop-test .taken) (cc)) ∙ b .before .loop .inv
 
+sub-reach-long : tie.Need-sub-reach-long Inv-loop μ-loop
+sub-reach-long c = search needs
+
+part-reach-long-start : tie.Need-part-reach-long-start Inv-loop μ-loop
+part-reach-long-start c = search needs
+
+part-reach-long-end : tie.Need-part-reach-long-end Inv-loop μ-loop
+part-reach-long-end c = search needs
+
 reach-long-requires : tie.Need-reach-long-requires Inv-loop μ-loop
 reach-long-requires c κs = search needs
 
 returns-2 : tie.Need-returns-2 Inv-loop μ-loop
 returns-2 c =
-    let b = c .before .before .before .before .before .before in
-    c .reach-long .ensures ∙ (reach-step (inRun _) _ _ (b .loop-test .taken) (cc) ∙ b .before .loop .inv)
+    let b = c .before .before .before .before .before .before .before in
+    (rw rest-is at (c .reach-long .ensures)) ∙ (reach-step (inRun _) _ _ (b .loop-test .taken) (cc) ∙ b .before .loop .inv)
 
 loop-less : tie.Need-loop-less Inv-loop μ-loop
 loop-less c = search needs
@@ -71,6 +80,9 @@ reach-run-spec =
     in-run-requires
     add-i
     returns
+    sub-reach-long
+    part-reach-long-start
+    part-reach-long-end
     reach-long-requires
     returns-2
     loop-less

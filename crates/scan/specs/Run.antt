@@ -6,7 +6,6 @@ use lib.Dec.{eqb}
 use Rattle.base.specs.Choice.{pick}
 use Rattle.base.specs.Bytes.{byte}
 use Rattle.base.specs.Classes.{isDigit, isLowerAlpha, isIdentPart, isSpace}
-use Rattle.base.specs.Runs.{reach}
 use Rattle.scan.specs.declared.run.Run.{Run}
 use Rattle.scan.specs.declared.run.Run.the-variants as run
 

@@ -1,7 +1,6 @@
 -- `reach_run` meets its contract: the run from here has the end that the run from `at` has. Assumes nothing.
 use mathlib.Core.Path.{_≡_, refl, sym, _∙_}
 use Prim.Native.Nat.{_-_}
-use native.Mathlib.Omega.{arith}
 use borrow.Author.Needs.{needs}
 use lib.ListN.{length}
 use Rattle.base.specs.Runs.{reach}

@@ -1,20 +1,34 @@
 -- How much the tokens of a text can need: no more string bytes and reports than the text has bytes, and one token more. By induction on the
 -- tokens. Assumes nothing.
-use mathlib.Core.Path.{_≡_}
+use mathlib.Core.Path.{_≡_, refl, ap}
+use mathlib.Core.Bool.{Bool, true, _&&_}
 use mathlib.Core.List.{List, [], _∷_, map}
-use Prim.Native.Nat.{ℕ, _+_, _-_, _≤_}
+use Prim.Native.Nat.{ℕ, _+_, _*_, _-_, _≤_}
 use native.Mathlib.Omega.{arith}
+use lib.Dec.{leb, ltb, eqb}
 use lib.ListN.{length, drop, length-append, length-map}
-use Rattle.base.proofs.Tests.{pick-le}
+use borrow.Author.Tests.{leb-true}
+use Rattle.base.proofs.Tests.{pick-le, pick-case, and-left, and-right}
+use Rattle.limits.specs.Limits.{maxMessageSize}
 use Rattle.token.specs.Kind.{kindNumber}
+use Rattle.token.specs.Layout.{recordWidth, reportWidth}
 use Rattle.token.specs.declared.kind.TokenKind.{TokenKind}
+use Rattle.lexeme.specs.Lexeme.{Note}
 use Rattle.lexeme.specs.Reports.{reportOf}
 use Rattle.lexeme.specs.declared.Mode.{Mode}
-use Rattle.lexer.specs.Lexer.{stringOf, notesOf}
+use Rattle.lexeme.specs.declared.Mode.the-variants.{Strict, Tolerant}
+use Rattle.scan.specs.Comment.{bodyEnd, blockNotes}
+use Rattle.scan.specs.Bytes.{bytesNotes}
+use Rattle.strings.specs.Literal.{literalNotes, stringNotes}
+use Rattle.triple_strings.specs.Triple.{closed, tripleNotes}
+use Rattle.lexer.specs.Lexer.{classAt, stringOf, notesBy, notesOf}
 use Rattle.lexer.specs.Token.{nextToken, isString, stringSize}
+use Rattle.lexer.specs.declared.class.Class.{Class}
+use Rattle.lexer.specs.declared.class.Class.the-variants as C
 use Rattle.lexer.specs.declared.next.Token.{Token}
 use Rattle.reading.specs.Tokens.{tokens}
 use Rattle.reading.specs.Buffers.{stringsOf, reportsOf}
+use Rattle.reading.specs.Passes.{Room, mostReports, sufficeFor}
 use Rattle.reading.proofs.Nexts.{reads}
 use Rattle.reading.proofs.From.{by-tokens}
 
@@ -84,3 +98,47 @@ module _ (m : Mode) (limit : ℕ) (text : List ℕ) where
 
   pub tokens-fit : length (tokens m limit text) ≤ length text + 1
   tokens-fit = omega (arith, few .count)
+
+-- the strict reader makes no report
+strict-by : (k : Class) (limit : ℕ) (s : List ℕ) → notesBy k Strict limit s ≡ []
+unfolding notesBy blockNotes tripleNotes stringNotes literalNotes bytesNotes
+strict-by C.Newline limit s = refl
+strict-by C.LineComment limit s = refl
+strict-by C.BlockComment limit s = pick-case (λ (ns : List Note). ns ≡ []) (ltb (bodyEnd s) (length s)) (λ _. refl) (λ _. refl)
+strict-by C.Triple limit s = pick-case (λ (ns : List Note). ns ≡ []) (closed s) (λ _. refl) (λ _. refl)
+strict-by C.Quote limit s = refl
+strict-by C.Bytes limit s = refl
+strict-by (C.Single k) limit s = refl
+strict-by C.Directive limit s = refl
+strict-by C.Number limit s = refl
+strict-by C.Name limit s = refl
+strict-by C.Other limit s = refl
+
+strict-notes : (limit : ℕ) (s : List ℕ) → notesOf Strict limit s ≡ []
+unfolding notesOf
+strict-notes limit s = pick-case (λ (ns : List Note). ns ≡ []) (eqb (length s) 0) (λ _. refl) (λ _. strict-by (classAt s) limit s)
+
+strict-reports : (limit : ℕ) (text : List ℕ) (ts : List Token) → length (reportsOf Strict limit text ts) ≡ 0
+unfolding reportsOf
+strict-reports limit text [] = refl
+strict-reports limit text (t ∷ ts) =
+    omega (arith, reports-more Strict limit text t ts, ap length (strict-notes limit (drop (t .start .offset) text)), strict-reports limit text ts)
+
+most-reports : (m : Mode) (limit : ℕ) (text : List ℕ) → length (reportsOf m limit text (tokens m limit text)) ≤ mostReports m (length text)
+most-reports Strict limit text = omega (arith, strict-reports limit text (tokens Strict limit text))
+most-reports Tolerant limit text = reports-fit Tolerant limit text
+
+-- buffers that suffice for any text of its length suffice for a text
+pub suffice-room : (m : Mode) (limit : ℕ) (text : List ℕ) (nt ns nr : ℕ) → length text ≤ maxMessageSize → sufficeFor m (length text) nt ns nr ≡ true → Room m limit text nt ns nr
+unfolding sufficeFor
+suffice-room m limit text nt ns nr h e =
+    let a : Bool = leb ((length text + 1) * recordWidth) nt in
+    let b : Bool = leb (length text) ns in
+    let c : Bool = leb (mostReports m (length text) * reportWidth) nr in
+    let f = and-left (a && b) c e in
+    record {
+      short = h;
+      for-tokens = omega (arith, tokens-fit m limit text, leb-true ((length text + 1) * recordWidth) nt (and-left a b f));
+      for-strings = omega (arith, strings-fit m limit text, leb-true (length text) ns (and-right a b f));
+      for-reports = omega (arith, most-reports m limit text, leb-true (mostReports m (length text) * reportWidth) nr (and-right (a && b) c e));
+    }

@@ -28,7 +28,7 @@ use Rattle.lexer.specs.declared.next.Found.{Found}
 use Rattle.lexer.specs.declared.next.Token.{Token}
 use Rattle.reading.specs.Tokens.{tokensFrom, tokens}
 use Rattle.reading.specs.Buffers.{recordOf, recordsOf, stringsOf, reportsOf, recordRows, reportRows}
-use Rattle.reading.specs.Passes.{Measured, Room, Written, RecordRoom, StringRoom, NotesRoom}
+use Rattle.reading.specs.Passes.{Measured, Room, Written, RecordRoom, StringRoom, NotesRoom, TokenRoom, TokenPut}
 use Rattle.reading.proofs.Nexts.{Read, reads, end-offset}
 use Rattle.reading.proofs.From.{from-eof, from-more, from-head}
 use Rattle.reading.proofs.Rows.{report-rows-append, notes-rows}
@@ -307,10 +307,73 @@ module _ {m : Mode} {limit : ℕ} {text : List ℕ} {T : List ℤ} {S : List ℕ
           room-r = omega (arith, rw q at (w .room-r), reports-more m limit text t rest, r .notes);
         }
 
-    pub writing-end : kindNumber (t .kind) ≡ 0 → Written m limit text T S R T″ S′ R′
-    unfolding recordsOf recordRows stringsOf reportsOf reportRows
-    writing-end c =
+    pub writing-end : kindNumber (t .kind) ≡ 0 → {S″ : List ℕ} → S″ ≡ sets S′ s (stringOf m (drop (t .start .offset) text)) → {R″ : List ℤ}
+        → R″ ≡ sets R′ k (notesNumbers text (t .start .offset) (notesOf m limit (drop (t .start .offset) text))) → Written m limit text T S R T″ S″ R″
+    unfolding recordsOf recordRows stringsOf reportsOf reportRows notesNumbers
+    writing-end c es er =
         let q : tokensFrom m limit text (p .offset) ≡ t ∷ [] = eof-of m limit text (p .offset) (w .walkable .inside) t e c in
         let a = eof-string m limit text (p .offset) (w .walkable .inside) t e c in
         let b = eof-notes m limit text (p .offset) (w .walkable .inside) t e c in
-        record { records = et ∙ (rw q at (w .records)); strings = rw (q, a) at (w .strings); reports = rw (q, b) at (w .reports) }
+        record { records = et ∙ (rw q at (w .records)); strings = (rw a at es) ∙ (rw (q, a) at (w .strings)); reports = (rw b at er) ∙ (rw (q, b) at (w .reports)) }
+
+-- storing n tokens, s string bytes and k reports, and counting them
+pub record Passing (m : Mode) (limit : ℕ) (text : List ℕ) (T : List ℤ) (S : List ℕ) (R T′ : List ℤ) (S′ : List ℕ) (R′ : List ℤ) (p : Place) (n s k : ℕ) : Type 0 where
+  pub writing : Writing m limit text T S R T′ S′ R′ p (n * recordWidth) s (k * reportWidth)
+  pub counting : Measuring m limit text (p .offset) n s k
+
+pub passing-start : (m : Mode) (limit : ℕ) (text : List ℕ) (T : List ℤ) (S : List ℕ) (R : List ℤ) (p : Place) → p ≡ firstPlace
+    → Room m limit text (length T) (length S) (length R) → Passing m limit text T S R T S R p 0 0 0
+passing-start m limit text T S R p e h =
+    record { writing = writing-start m limit text T S R p e h; counting = rw e (measuring-start m limit text) }
+
+module _ {m : Mode} {limit : ℕ} {text : List ℕ} {T : List ℤ} {S : List ℕ} {R T′ : List ℤ} {S′ : List ℕ} {R′ : List ℤ} {p : Place} {n s k : ℕ}
+    (w : Passing m limit text T S R T′ S′ R′ p n s k) {t : Token} (e : t ≡ nextToken m limit text (p .offset)) where
+  pub token-room : AreBytes text → TokenRoom m limit text t (length T′) (n * recordWidth) (length S′) s (length R′) (k * reportWidth)
+  token-room bytes =
+      let v = w .writing in
+      record { of-record = record-room v e bytes; of-string = string-room v e; of-notes = notes-room v e }
+
+  pub passing-less : (kindNumber (t .kind) ≡ 0 → ⊥) → length text - t .end .offset < length text - p .offset
+  passing-less = writing-less (w .writing) e
+
+  found-is : tokenOf text (foundAt m limit text (p .offset)) ≡ t
+  found-is = found-next (w .counting) refl ∙ sym e
+
+  number-is : kindNumber (t .kind) ≡ kindNumber (foundAt m limit text (p .offset) .lexeme .kind)
+  number-is = ap (λ (u : Token). kindNumber (u .kind)) (sym found-is)
+
+  -- no count is past the text
+  pub passing-few : (n + 1 ≤ length text + 1) × (s + stringSize (t .kind) (t .size) ≤ length text) × (k + t .reports ≤ length text)
+  passing-few =
+      let f = measuring-few (w .counting) refl in
+      subst (λ (u : Token). (n + 1 ≤ length text + 1) × (s + stringSize (u .kind) (u .size) ≤ length text) × (k + u .reports ≤ length text)) found-is
+      (f .0, f .1, f .2)
+
+  module _ {T″ : List ℤ} {S″ : List ℕ} {R″ : List ℤ} (d : TokenPut m limit text t (n * recordWidth) s (k * reportWidth) T′ S′ R′ T″ S″ R″) where
+    -- no buffer changes its length
+    pub passing-lengths : (length T″ ≡ length T) × (length S″ ≡ length S) × (length R″ ≡ length R)
+    passing-lengths =
+        let v = w .writing in
+        let str = stringOf m (drop (t .start .offset) text) in
+        let rep = notesNumbers text (t .start .offset) (notesOf m limit (drop (t .start .offset) text)) in (
+          stored-length v e (d .of-record),
+          ap length (d .of-string) ∙ length-sets S′ s str ∙ v .len-s,
+          ap length (d .of-notes) ∙ length-sets R′ (k * reportWidth) rep ∙ v .len-r,
+        )
+
+    pub passing-turn : (kindNumber (t .kind) ≡ 0 → ⊥)
+        → Passing m limit text T S R T″ S″ R″ (t .end) (n + 1) (s + stringSize (t .kind) (t .size)) (k + t .reports)
+    passing-turn c =
+        let i : n * recordWidth + recordWidth ≡ (n + 1) * recordWidth = omega arith in
+        let j : k * reportWidth + t .reports * reportWidth ≡ (k + t .reports) * reportWidth = omega arith in
+        let o = found-end (w .counting) refl in
+        record {
+          writing = rw (i, j) at (writing-turn (w .writing) e (d .of-record) c (d .of-string) (d .of-notes));
+          counting =
+              subst (λ (u : Token). Measuring m limit text (u .end .offset) (n + 1) (s + stringSize (u .kind) (u .size)) (k + u .reports)) found-is
+              (rw o (measuring-turn (w .counting) refl (λ z. c (number-is ∙ z))));
+        }
+
+    pub passing-end : kindNumber (t .kind) ≡ 0 → Measured m limit text (record { tokens = n + 1; strings = s; reports = k }) × Written m limit text T S R T″ S″ R″
+    passing-end c =
+        (measuring-end (w .counting) refl (sym number-is ∙ c), writing-end (w .writing) e (d .of-record) c (d .of-string) (d .of-notes))

@@ -109,3 +109,8 @@ module _ (m : Mode) (limit : ℕ) (text : List ℕ) (T : List ℤ) (S : List ℕ
                       )
                       (demand-3 m limit text);
                 }
+
+      -- the same, where the room is known
+      pub done-room : Room m limit text (length T) (length S) (length R) → {T′ : List ℤ} {S′ : List ℕ} {R′ : List ℤ} → Written m limit text T S R T′ S′ R′
+          → ReadsText m limit text T S R (Counts (r .tokens) (r .strings) (r .reports)) T′ S′ R′
+      done-room q = done (rw (w .of-tokens) (q .for-tokens)) (rw (w .of-strings) (q .for-strings)) (rw (w .of-reports) (q .for-reports))

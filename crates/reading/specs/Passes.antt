@@ -1,19 +1,20 @@
 -- The contracts inside the calls: the checks of the text, the two passes of a whole reading, and what a token lays into each buffer.
 use mathlib.Core.Path.{_≡_}
-use mathlib.Core.Bool.{false}
+use mathlib.Core.Bool.{Bool, _&&_}
 use mathlib.Core.List.{List, []}
 use Prim.Native.Nat.{ℕ, _+_, _*_, _≤_}
-use lib.Dec.{ltb}
+use lib.Dec.{leb, ltb}
 use lib.IntN.{ℤ}
 use lib.ListN.{length, drop}
 use lib.Seq.{sets}
 use Rattle.base.specs.Choice.{pick}
 use Rattle.limits.specs.Limits.{maxMessageSize}
-use Rattle.token.specs.Layout.{recordWidth, reportWidth, RecordFits}
+use Rattle.token.specs.Layout.{recordWidth, reportWidth, recordNumbers, RecordFits}
 use Rattle.utf8.specs.Check.{checkOf}
 use Rattle.token.specs.Place.{Walkable}
 use Rattle.lexeme.specs.Reports.{notesNumbers}
 use Rattle.lexeme.specs.declared.Mode.{Mode}
+use Rattle.lexeme.specs.declared.Mode.the-variants.{Strict, Tolerant}
 use Rattle.lexer.specs.Lexer.{stringOf, notesOf}
 use Rattle.lexer.specs.Token.{stringSize}
 use Rattle.lexer.specs.declared.next.Token.{Token}
@@ -63,3 +64,24 @@ pub record NotesRoom (m : Mode) (limit : ℕ) (text : List ℕ) (t : Token) (roo
   pub counted : length (notesOf m limit (drop (t .start .offset) text)) ≡ t .reports
   pub walkable : Walkable text (t .start) (t .start .offset)
   pub fits : at + length (notesNumbers text (t .start .offset) (notesOf m limit (drop (t .start .offset) text))) ≤ room
+
+-- room for all of a token
+pub record TokenRoom (m : Mode) (limit : ℕ) (text : List ℕ) (t : Token) (nt i ns s nr k : ℕ) : Type 0 where
+  pub of-record : RecordRoom s t nt i
+  pub of-string : StringRoom m text t ns s
+  pub of-notes : NotesRoom m limit text t nr k
+
+-- what it lays into the buffers
+pub record TokenPut (m : Mode) (limit : ℕ) (text : List ℕ) (t : Token) (i s k : ℕ) (T : List ℤ) (S : List ℕ) (R T′ : List ℤ) (S′ : List ℕ) (R′ : List ℤ) : Type 0 where
+  pub of-record : T′ ≡ sets T i (recordNumbers (recordOf s t))
+  pub of-string : S′ ≡ sets S s (stringOf m (drop (t .start .offset) text))
+  pub of-notes : R′ ≡ sets R k (notesNumbers text (t .start .offset) (notesOf m limit (drop (t .start .offset) text)))
+
+-- how many reports any text of so many bytes can have: "The strict reader makes no report"
+abbrev pub mostReports : Mode → ℕ → ℕ
+mostReports Strict len = 0
+mostReports Tolerant len = len
+
+-- buffers of nt numbers, ns bytes and nr numbers that hold the result of any text of so many bytes
+unfoldable pub sufficeFor : Mode → ℕ → ℕ → ℕ → ℕ → Bool
+sufficeFor m len nt ns nr = (leb ((len + 1) * recordWidth) nt && leb len ns) && leb (mostReports m len * reportWidth) nr

@@ -9,7 +9,7 @@ ghost use Rattle.lexeme.specs.Reports.{notesNumbers};
 ghost use Rattle.lexer.specs.Lexer.{stringOf, notesOf};
 ghost use Rattle.lexer.specs.Token.{isString};
 ghost use Rattle.reading.specs.Buffers.{recordOf};
-ghost use Rattle.reading.specs.Passes.{RecordRoom, StringRoom, NotesRoom};
+ghost use Rattle.reading.specs.Passes.{RecordRoom, StringRoom, NotesRoom, TokenRoom, TokenPut};
 use lexeme::Mode;
 use lexer::next::Token;
 use lexer::next::string_size;
@@ -81,4 +81,31 @@ pub fn put_notes(text: &[u8], t: Token, mode: Mode, limit: usize, out: &mut [i64
         return;
     }
     put_reports(text, t.start, mode, limit, out, at);
+}
+
+// Writes a token of the text: its record, its string and its reports. Most tokens have no string and no reports, and for these nothing is called.
+pub fn put_token(
+    text: &[u8],
+    t: Token,
+    mode: Mode,
+    limit: usize,
+    tokens: &mut [i64],
+    i: usize,
+    strings: &mut [u8],
+    at: usize,
+    reports: &mut [i64],
+    k: usize,
+)
+    requires { ⌜ TokenRoom mode limit (now text) t (length (now tokens)) i (length (now strings)) at (length (now reports)) k ⌝ }
+    ensures { λ r. ⌜ TokenPut mode limit (now (text .entry)) t i at k (now (tokens .entry)) (now (strings .entry)) (now (reports .entry)) (now (tokens .exit)) (now (strings .exit)) (now (reports .exit)) ⌝ }
+{
+    let kind = t.kind;
+    put_record(t, at, tokens, i);
+    if string_size(kind, t.size) != 0 {
+        let start = t.start.offset;
+        put_string(&text[start..], mode, strings, at);
+    }
+    if t.reports != 0 {
+        put_reports(text, t.start, mode, limit, reports, k);
+    }
 }

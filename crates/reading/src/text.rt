@@ -5,13 +5,10 @@ ghost use lib.ListN.{length};
 ghost use Rattle.limits.specs.Limits.{maxMessageSize};
 ghost use Rattle.reading.specs.Answers.{readTextNumber};
 ghost use Rattle.reading.specs.Calls.{ReadsText};
-ghost use Rattle.reading.specs.Passes.{Measured, Room, Written};
+ghost use Rattle.reading.specs.Passes.{Measured, Room, Written, mostReports, sufficeFor};
 use crate::judge::Judged;
 use crate::judge::judge;
-use crate::put::kind_number;
-use crate::put::put_notes;
-use crate::put::put_record;
-use crate::put::put_value;
+use crate::put::put_token;
 use lexeme::Mode;
 use lexer::next::next_lexeme;
 use lexer::next::next_token;
@@ -85,13 +82,13 @@ fn measure(text: &[u8], mode: Mode, limit: usize) -> Counts
                 reports,
             };
         }
-        strings += string_size(kind, x.size);
-        reports += x.reports;
-        at = found.start + x.len;
+        strings += string_size(kind, found.lexeme.size);
+        reports += found.lexeme.reports;
+        at = found.start + found.lexeme.len;
     }
 }
 
-// The second pass: each token's record, string and reports, one after the other.
+// The second pass: each token's record, string and reports, one after the other. It counts too.
 fn write(
     text: &[u8],
     mode: Mode,
@@ -99,31 +96,56 @@ fn write(
     tokens: &mut [i64],
     strings: &mut [u8],
     reports: &mut [i64],
-)
+) -> Counts
     requires { ⌜ Room mode limit (now text) (length (now tokens)) (length (now strings)) (length (now reports)) ⌝ }
-    ensures { λ r. ⌜ Written mode limit (now (text .entry)) (now (tokens .entry)) (now (strings .entry)) (now (reports .entry)) (now (tokens .exit)) (now (strings .exit)) (now (reports .exit)) ⌝ }
+    ensures { λ r. ⌜ Measured mode limit (now (text .entry)) r × Written mode limit (now (text .entry)) (now (tokens .entry)) (now (strings .entry)) (now (reports .entry)) (now (tokens .exit)) (now (strings .exit)) (now (reports .exit)) ⌝ }
 {
     let mut place = Place::first();
-    let mut i = 0;
+    let mut n = 0;
     let mut m = 0;
     let mut k = 0;
     loop {
         let t = next_token(text, place, mode, limit);
         let kind = t.kind;
-        put_record(t, m, tokens, i);
-        if kind_number(t) == 0 {
-            return;
+        let i = n * RECORD_WIDTH;
+        let j = k * REPORT_WIDTH;
+        put_token(text, t, mode, limit, tokens, i, strings, m, reports, j);
+        n += 1;
+        if kind.number() == 0 {
+            return Counts {
+                tokens: n,
+                strings: m,
+                reports: k,
+            };
         }
-        put_value(text, t, mode, strings, m);
-        put_notes(text, t, mode, limit, reports, k);
-        i += RECORD_WIDTH;
         m += string_size(kind, t.size);
-        k += t.reports * REPORT_WIDTH;
+        k += t.reports;
         place = t.end;
     }
 }
 
-// Reads a whole text: the records of its tokens, its strings and its reports, each from the buffer's start.
+// How many reports any text of so many bytes can have.
+fn most_reports(mode: Mode, len: usize) -> usize
+    ensures { λ r. ⌜ r ≡ mostReports mode len ⌝ }
+{
+    match mode {
+        Mode::Strict => 0,
+        Mode::Tolerant => len,
+    }
+}
+
+// Whether buffers suffice for any text of so many bytes.
+fn suffice(mode: Mode, len: usize, tokens: usize, strings: usize, reports: usize) -> bool
+    requires { ⌜ len ≤ maxMessageSize ⌝ }
+    ensures { λ r. ⌜ r ≡ sufficeFor mode len tokens strings reports ⌝ }
+{
+    let most = most_reports(mode, len);
+    let records = (len + 1) * RECORD_WIDTH;
+    (records <= tokens) & (len <= strings) & (most * REPORT_WIDTH <= reports)
+}
+
+// Reads a whole text: the records of its tokens, its strings and its reports, each from the buffer's start. It measures first, but where the
+// buffers suffice in any case.
 pub fn read_text(
     text: &[u8],
     mode: Mode,
@@ -138,6 +160,14 @@ pub fn read_text(
         Judged::TooLong => return ReadText::TooLong,
         Judged::NotUtf8(at) => return ReadText::NotUtf8(at),
         Judged::Fit => {}
+    }
+    if suffice(mode, text.len(), tokens.len(), strings.len(), reports.len()) {
+        let written = write(text, mode, limit, tokens, strings, reports);
+        return ReadText::Counts {
+            tokens: written.tokens,
+            strings: written.strings,
+            reports: written.reports,
+        };
     }
     let counts = measure(text, mode, limit);
     let n = counts.tokens;

@@ -52,21 +52,21 @@ add-reports c =
 
 add-at : tie.Need-add-at Inv-loop μ-loop
 add-at c =
-    let n = c .before .before .before .before .before .before .before in
+    let n = c .before .before .before .before .before .before in
     let w = n .before .loop .inv in
     record { fits = omega (arith, measuring-few w (n .next-lexeme .ensures), n .before .before .before .pre) }
 
 loop-less : tie.Need-loop-less Inv-loop μ-loop
 loop-less c =
-    let n = c .before .before .before .before .before .before .before in
+    let n = c .before .before .before .before .before .before in
     let w = n .before .loop .inv in
-    measuring-less w (n .next-lexeme .ensures) (λ z. c .before .before .before .before .if1 .left (c .before .before .before .before .before .number .ensures ∙ z))
+    measuring-less w (n .next-lexeme .ensures) (λ z. c .before .before .before .if1 .left (c .before .before .before .before .number .ensures ∙ z))
 
 loop-again : tie.Need-loop-again Inv-loop μ-loop
 loop-again c =
-    let n = c .before .before .before .before .before .before .before in
+    let n = c .before .before .before .before .before .before in
     let w = n .before .loop .inv in
-    rw (c .before .before .before .string-size .ensures) (measuring-turn w (n .next-lexeme .ensures) (λ z. c .before .before .before .before .if1 .left (c .before .before .before .before .before .number .ensures ∙ z)))
+    rw (c .before .before .string-size .ensures) (measuring-turn w (n .next-lexeme .ensures) (λ z. c .before .before .before .if1 .left (c .before .before .before .before .number .ensures ∙ z)))
 
 pub measure-spec : {M : Type 1} → statement M
 measure-spec =

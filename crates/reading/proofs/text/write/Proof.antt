@@ -1,18 +1,18 @@
--- `write` stores what the definitions say: a turn stores one token. Assumes nothing.
+-- `write` stores and counts what the definitions say: a turn stores and counts one token. Assumes nothing.
 use mathlib.Core.Path.{sym, _∙_}
 use Prim.Native.Nat.{_-_}
 use native.Mathlib.Omega.{arith}
 use lib.ListN.{length}
 use borrow.Author.Needs.{needs}
-use Rattle.reading.proofs.Turns.{Writing, writing-start, writing-less, writing-few, record-room, string-room, notes-room, stored-length, writing-turn, writing-end}
+use Rattle.reading.proofs.Turns.{Passing, passing-start, passing-less, passing-few, token-room, passing-lengths, passing-turn, passing-end}
 use Rattle.reading.proofs.text.write.Statement.{statement}
 use Rattle.reading.proofs.text.write.Tie as tie
 
 abbrev Inv-loop : tie.InvT-loop
-Inv-loop text mode limit tokens₀ strings₀ reports₀ place₀ i₀ m₀ k₀ tokens strings reports place i m k = Writing mode limit text tokens₀ strings₀ reports₀ tokens strings reports place i m k
+Inv-loop text mode limit tokens₀ strings₀ reports₀ place₀ n₀ m₀ k₀ tokens strings reports place n m k = Passing mode limit text tokens₀ strings₀ reports₀ tokens strings reports place n m k
 
 abbrev μ-loop : tie.MeasureT-loop
-μ-loop text mode limit tokens₀ strings₀ reports₀ place₀ i₀ m₀ k₀ tokens strings reports place i m k = length text - place .offset
+μ-loop text mode limit tokens₀ strings₀ reports₀ place₀ n₀ m₀ k₀ tokens strings reports place n m k = length text - place .offset
 
 first-requires : tie.Need-first-requires Inv-loop μ-loop
 first-requires c κs = search needs
@@ -20,95 +20,85 @@ first-requires c κs = search needs
 loop-holds : tie.Need-loop-holds Inv-loop μ-loop
 loop-holds c =
     let a = c .before .before .before in
-    writing-start (a .args .mode) (a .args .limit) (a .args .text .now) (a .args .tokens .now) (a .args .strings .now) (a .args .reports .now) (c .first .result) (c .first .ensures) (a .pre)
+    passing-start (a .args .mode) (a .args .limit) (a .args .text .now) (a .args .tokens .now) (a .args .strings .now) (a .args .reports .now) (c .first .result) (c .first .ensures) (a .pre)
 
 next-token-requires : tie.Need-next-token-requires Inv-loop μ-loop
-next-token-requires c κs = c .loop .inv .walkable
+next-token-requires c κs = c .loop .inv .writing .walkable
 
-put-record-requires : tie.Need-put-record-requires Inv-loop μ-loop
-put-record-requires c κs =
-    let n = c .before in
+mul-i : tie.Need-mul-i Inv-loop μ-loop
+mul-i c =
+    let w = c .before .loop .inv in
+    record { fits = omega (arith, w .counting .n-le, w .counting .inside, w .writing .walkable .short) }
+
+mul-j : tie.Need-mul-j Inv-loop μ-loop
+mul-j c =
+    let w = c .before .loop .inv in
+    record { fits = omega (arith, w .counting .k-le, w .counting .inside, w .writing .walkable .short) }
+
+put-token-requires : tie.Need-put-token-requires Inv-loop μ-loop
+put-token-requires c κs =
+    let n = c .before .before .before in
+    token-room (n .before .loop .inv) (n .next-token .ensures) (λ k. n .before .before .before .before .shared-slice-known .given k .fits)
+
+add-n : tie.Need-add-n Inv-loop μ-loop
+add-n c =
+    let n = c .before .before .before .before .before .before .before .before in
     let w = n .before .loop .inv in
-    record-room w (n .next-token .ensures) (λ k. n .before .before .before .before .shared-slice-known .given k .fits)
+    record { fits = omega (arith, passing-few w (n .next-token .ensures), w .writing .walkable .short) }
 
-kind-number-requires : tie.Need-kind-number-requires Inv-loop μ-loop
-kind-number-requires c κs = search needs
+number-requires : tie.Need-number-requires Inv-loop μ-loop
+number-requires c κs = search needs
 
 same-length : tie.Need-same-length Inv-loop μ-loop
 same-length c =
-    let n = c .before .before .before .before .before in
-    let w = n .before .loop .inv in
-    stored-length w (n .next-token .ensures) (c .before .before .before .put-record .ensures)
+    let q = c .before .before .before .before .before .before in
+    let n = q .before .before .before .before in
+    passing-lengths (n .before .loop .inv) (n .next-token .ensures) (q .put-token .ensures) .0
 
 same-length-2 : tie.Need-same-length-2 Inv-loop μ-loop
 same-length-2 c =
-    let n = c .before .before .before .before .before in
-    let w = n .before .loop .inv in
-    w .len-s
+    let q = c .before .before .before .before .before .before in
+    let n = q .before .before .before .before in
+    passing-lengths (n .before .loop .inv) (n .next-token .ensures) (q .put-token .ensures) .1
 
 same-length-3 : tie.Need-same-length-3 Inv-loop μ-loop
 same-length-3 c =
-    let n = c .before .before .before .before .before in
-    let w = n .before .loop .inv in
-    w .len-r
+    let q = c .before .before .before .before .before .before in
+    let n = q .before .before .before .before in
+    passing-lengths (n .before .loop .inv) (n .next-token .ensures) (q .put-token .ensures) .2
 
 returns : tie.Need-returns Inv-loop μ-loop
 returns c =
-    let n = c .before .before .before .before .before in
-    let w = n .before .loop .inv in
-    writing-end w (n .next-token .ensures) (c .before .before .before .put-record .ensures) (sym (c .before .kind-number .ensures) ∙ c .if1 .taken)
-
-put-value-requires : tie.Need-put-value-requires Inv-loop μ-loop
-put-value-requires c κs =
-    let n = c .before .before .before .before .before .before in
-    let w = n .before .loop .inv in
-    string-room w (n .next-token .ensures)
-
-put-notes-requires : tie.Need-put-notes-requires Inv-loop μ-loop
-put-notes-requires c κs =
-    let n = c .before .before .before .before .before .before .before .before .before .before in
-    let w = n .before .loop .inv in
-    notes-room w (n .next-token .ensures)
-
-add-i : tie.Need-add-i Inv-loop μ-loop
-add-i c =
-    let n = c .before .before .before .before .before .before .before .before .before .before .before .before in
-    let w = n .before .loop .inv in
-    record { fits = omega (arith, writing-few w (n .next-token .ensures), n .before .before .before .before .before .good) }
+    let q = c .before .before .before .before .before .before in
+    let n = q .before .before .before .before in
+    passing-end (n .before .loop .inv) (n .next-token .ensures) (q .put-token .ensures) (sym (c .before .number .ensures) ∙ c .if1 .taken)
 
 string-size-requires : tie.Need-string-size-requires Inv-loop μ-loop
 string-size-requires c κs = search needs
 
 add-m : tie.Need-add-m Inv-loop μ-loop
 add-m c =
-    let n = c .before .before .before .before .before .before .before .before .before .before .before .before .before in
+    let n = c .before .before .before .before .before .before .before .before .before .before .before in
     let w = n .before .loop .inv in
-    record { fits = omega (arith, c .string-size .ensures, writing-few w (n .next-token .ensures), n .before .before .before .before .before .good) }
-
-mul-k : tie.Need-mul-k Inv-loop μ-loop
-mul-k c =
-    let n = c .before .before .before .before .before .before .before .before .before .before .before .before .before .before in
-    let w = n .before .loop .inv in
-    record { fits = omega (arith, writing-few w (n .next-token .ensures), n .before .before .before .before .before .good) }
+    record { fits = omega (arith, c .string-size .ensures, passing-few w (n .next-token .ensures), w .writing .walkable .short) }
 
 add-k : tie.Need-add-k Inv-loop μ-loop
 add-k c =
-    let n = c .before .before .before .before .before .before .before .before .before .before .before .before .before .before in
+    let n = c .before .before .before .before .before .before .before .before .before .before .before .before in
     let w = n .before .loop .inv in
-    record { fits = omega (arith, writing-few w (n .next-token .ensures), n .before .before .before .before .before .good) }
+    record { fits = omega (arith, passing-few w (n .next-token .ensures), w .writing .walkable .short) }
 
 loop-less : tie.Need-loop-less Inv-loop μ-loop
 loop-less c =
-    let n = c .before .before .before .before .before .before .before .before .before .before .before .before .before .before .before in
-    let w = n .before .loop .inv in
-    writing-less w (n .next-token .ensures) (λ z. c .before .before .before .before .before .before .before .before .before .before .if1 .left (c .before .before .before .before .before .before .before .before .before .before .before .kind-number .ensures ∙ z))
+    let n = c .before .before .before .before .before .before .before .before .before .before .before .before .before in
+    passing-less (n .before .loop .inv) (n .next-token .ensures) (λ z. c .before .before .before .if1 .left (c .before .before .before .before .number .ensures ∙ z))
 
 loop-again : tie.Need-loop-again Inv-loop μ-loop
 loop-again c =
-    let n = c .before .before .before .before .before .before .before .before .before .before .before .before .before .before .before in
-    let w = n .before .loop .inv in
+    let q = c .before .before .before .before .before .before .before .before .before in
+    let n = q .before .before .before .before in
     rw (c .before .before .string-size .ensures)
-    (writing-turn w (n .next-token .ensures) (c .before .before .before .before .before .before .before .before .before .before .before .before .before .put-record .ensures) (λ z. c .before .before .before .before .before .before .before .before .before .before .if1 .left (c .before .before .before .before .before .before .before .before .before .before .before .kind-number .ensures ∙ z)) (c .before .before .before .before .before .before .before .before .put-value .ensures) (c .before .before .before .before .put-notes .ensures))
+    (passing-turn (n .before .loop .inv) (n .next-token .ensures) (q .put-token .ensures) (λ z. c .before .before .before .if1 .left (c .before .before .before .before .number .ensures ∙ z)))
 
 pub write-spec : {M : Type 1} → statement M
 write-spec =
@@ -119,18 +109,17 @@ write-spec =
     first-requires
     loop-holds
     next-token-requires
-    put-record-requires
-    kind-number-requires
+    mul-i
+    mul-j
+    put-token-requires
+    add-n
+    number-requires
     same-length
     same-length-2
     same-length-3
     returns
-    put-value-requires
-    put-notes-requires
-    add-i
     string-size-requires
     add-m
-    mul-k
     add-k
     loop-less
     loop-again)

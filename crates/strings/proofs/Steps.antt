@@ -1,12 +1,11 @@
 -- What `step_at`, `feed`, `put` and the scans of runs return. Assumes nothing.
-use mathlib.Core.Path.{_≡_, refl, sym, _∙_, subst}
-use mathlib.Core.Bool.{Bool, true, false, _&&_}
+use mathlib.Core.Path.{_≡_, refl, sym, ap, _∙_, subst}
+use mathlib.Core.Bool.{Bool, true, false, not, _&&_, and-true}
 use mathlib.Core.List.{List, [], _∷_}
-use Prim.Native.Nat.{ℕ, zero, suc, _+_, _-_, _^_, _≤_, _<_}
-use native.Mathlib.Nat.{add-zero}
+use Prim.Native.Nat.{ℕ, suc, _+_, _-_, _^_, _≤_, _<_}
 use native.Mathlib.Numerals.{add-one}
 use native.Mathlib.Omega.{arith}
-use borrow.Author.Tests.{eq-eqb, ne-eqb}
+use borrow.Author.Tests.{eq-eqb, ne-eqb, not-true, not-false}
 use lib.Dec.{eqb, ltb}
 use lib.ListN.{length, drop, take, set, length-drop}
 use lib.Seq.{sets}
@@ -15,14 +14,16 @@ use mir.Val.{Fits}
 use Rattle.base.specs.Choice.{pick}
 use Rattle.base.specs.Bytes.{byte}
 use Rattle.base.specs.Runs.{reach}
-use Rattle.base.proofs.Tests.{and-left, and-right}
+use Rattle.base.specs.Blocks.{allPass, isNot}
+use Rattle.base.proofs.Tests.{and-right, and-false}
 use Rattle.base.proofs.Reaches.{rest-is, reach-step, reach-stop, reach-end}
+use Rattle.utf8.specs.Ascii.{isAscii}
 use Rattle.utf8.specs.State.{push, pushAll}
 use Rattle.utf8.specs.declared.state.State.{State}
 use Rattle.lexeme.specs.declared.Mode.{Mode}
 use Rattle.lexeme.specs.declared.Mode.the-variants.{Strict, Tolerant}
 use Rattle.strings.specs.Piece.{pieceOf}
-use Rattle.strings.specs.Plain.{isOrdinary, isPlain, inOrdinary, inPlain, plainFrom, WithinRuns}
+use Rattle.strings.specs.Plain.{isOrdinary, isPlain, inPlain}
 use Rattle.strings.specs.Decode.{stepOf}
 use Rattle.strings.specs.declared.piece.Piece.{Piece}
 use Rattle.strings.specs.declared.piece.Piece.the-variants as piece
@@ -154,40 +155,49 @@ module _ (f : ℕ → Bool) (s : List ℕ) (i e : ℕ) (inv : reach (λ (a b : �
 pub scan-none : (need i x : ℕ) → (need ≡ 0 → ⊥) → i ≡ pick (eqb need 0) x i
 scan-none need i x n = rw (ne-eqb need 0 n)
 
--- `is_plain_block`: one byte more
-pub block-more : (s : List ℕ) (e k : ℕ) (t x : Bool) → t ≡ plainFrom s e k → x ≡ isPlain (byte s (e + k)) → t && x ≡ plainFrom s e (k + 1)
-unfolding plainFrom
-block-more s e k t x p q = rw (add-one k, p, q)
+-- a test of two parts passes all bytes where each part does
+both-both : (a b c d : Bool) → (a && b) && (c && d) ≡ (a && c) && (b && d)
+both-both true true c d = refl
+both-both true false c d = rw (and-false c)
+both-both false b c d = refl
 
-pub block-end : (s : List ℕ) (e k : ℕ) (t : Bool) → t ≡ plainFrom s e k → k ≤ 8 → 8 ≤ k → t ≡ plainFrom s e 8
-block-end s e k t p h l = let q : k ≡ 8 = omega arith in rw q at p
+all-both : (f g : ℕ → Bool) (s : List ℕ) → allPass (λ (a : ℕ). f a && g a) s ≡ allPass f s && allPass g s
+unfolding allPass
+all-both f g [] = refl
+all-both f g (a ∷ s) = rw (all-both f g s) (both-both (f a) (g a) (allPass f s) (allPass g s))
 
--- plain bytes are in every run that takes them
-module _ (p : ℕ → ℕ → Bool) (passes : (a b : ℕ) → isPlain a ≡ true → p a b ≡ true) (s : List ℕ) (i : ℕ) where
-  plain-reach : (n : ℕ) → i + n ≤ length s → plainFrom s i n ≡ true → reach p s (i + n) ≡ reach p s i
-  unfolding plainFrom
-  plain-reach zero h e = rw (add-zero i)
-  plain-reach (suc n) h e =
-      let q : i + suc n ≡ i + n + 1 = omega arith in
-      let b = byte s (i + n) in
-      rw q
-      (reach-step p s (i + n) (omega arith) (passes b (byte s (i + n + 1)) (and-right (plainFrom s i n) (isPlain b) e))
-      ∙ plain-reach n (omega arith) (and-left (plainFrom s i n) (isPlain b) e))
+-- `all_ordinary`
+module _ (s : List ℕ) where
+  ordinary-all : allPass isOrdinary s ≡ (allPass (isNot 0x22) s && allPass (isNot 0x0A) s) && allPass (isNot 0x5C) s
+  unfolding isOrdinary
+  ordinary-all =
+      all-both (λ (a : ℕ). isNot 0x22 a && isNot 0x0A a) (isNot 0x5C) s
+      ∙ ap (λ (b : Bool). b && allPass (isNot 0x5C) s) (all-both (isNot 0x22) (isNot 0x0A) s)
 
+  module _ (x : Bool) (e : x ≡ allPass (isNot 0x22) s) where
+    pub some-quote : not x ≡ true → false ≡ allPass isOrdinary s
+    some-quote f = rw (ordinary-all, ← e, not-true x f)
+
+    module _ (f : not x ≡ false) (y : Bool) (g : y ≡ allPass (isNot 0x5C) s) where
+      pub some-backslash : not y ≡ true → false ≡ allPass isOrdinary s
+      some-backslash h = rw (ordinary-all, ← g, not-true y h, and-false)
+
+      pub all-others : not y ≡ false → (z : Bool) → z ≡ allPass (isNot 0x0A) s → z ≡ allPass isOrdinary s
+      all-others h z k = rw (ordinary-all, ← e, not-false x f, ← g, not-false y h, ← k, and-true)
+
+  -- `all_plain`
+  plain-all : allPass isPlain s ≡ allPass isAscii s && allPass isOrdinary s
+  unfolding isPlain
+  plain-all = all-both isAscii isOrdinary s
+
+  module _ (x : Bool) (e : x ≡ allPass isAscii s) where
+    pub some-high : not x ≡ true → false ≡ allPass isPlain s
+    some-high f = rw (plain-all, ← e, not-true x f)
+
+    pub all-low : not x ≡ false → (y : Bool) → y ≡ allPass isOrdinary s → y ≡ allPass isPlain s
+    all-low f y g = rw (plain-all, ← e, not-false x f, ← g)
+
+-- plain bytes stand for themselves
 pub plain-ordinary : (a b : ℕ) → inPlain a b ≡ true → isOrdinary a ≡ true
 unfolding isPlain
 plain-ordinary a b e = and-right (ltb a 0x80) (isOrdinary a) e
-
--- `skip_blocks`
-pub skip-none : (s : List ℕ) (i : ℕ) → i ≤ length s → WithinRuns s i i
-skip-none s i h = record { upto = h; ordinary = refl; plain = refl }
-
-pub skip-block : (s : List ℕ) (i e : ℕ) (t : Bool) → WithinRuns s i e → 8 ≤ length s - e → t ≡ plainFrom s e 8 → t ≡ true → WithinRuns s i (e + 8)
-skip-block s i e t w h q y =
-    let u : e + 8 ≤ length s = omega (arith, w .upto) in
-    let f : plainFrom s e 8 ≡ true = sym q ∙ y in
-    record {
-      upto = u;
-      ordinary = plain-reach inOrdinary plain-ordinary s e 8 u f ∙ w .ordinary;
-      plain = plain-reach inPlain (λ a b t. t) s e 8 u f ∙ w .plain;
-    }

@@ -7,14 +7,17 @@ ghost use lib.ListN.{length, take, drop};
 ghost use lib.Seq.{sets};
 ghost use Rattle.base.specs.Choice.{pick};
 ghost use Rattle.base.specs.Runs.{reach};
+ghost use Rattle.base.specs.Blocks.{allPass, Ahead};
 ghost use Rattle.utf8.specs.State.{fresh, pushAll};
 ghost use Rattle.strings.specs.Piece.{pieceOf};
-ghost use Rattle.strings.specs.Plain.{isOrdinary, isPlain, inOrdinary, inPlain, plainFrom, WithinRuns};
+ghost use Rattle.strings.specs.Plain.{isOrdinary, isPlain, inOrdinary, inPlain};
 ghost use Rattle.strings.specs.Decode.{stepOf, measured};
 ghost use Rattle.strings.specs.Literal.{literalOf};
 use crate::piece::Piece;
 use crate::piece::next_piece;
+use base::find::lacks;
 use lexeme::Mode;
+use utf8::ascii::all_ascii;
 use utf8::state::State;
 
 // How a literal ends.
@@ -181,37 +184,59 @@ fn is_plain(b: u8) -> bool
 }
 
 // How many bytes are tested at once.
-const BLOCK: usize = 8;
+const BLOCK: usize = 16;
 
-// Whether the block of bytes from e on is plain. No branch depends on a byte, so the whole block is one test.
-fn is_plain_block(s: &[u8], e: usize) -> bool
-    requires { ⌜ e + 8 ≤ length (now s) ⌝ }
-    ensures { λ r. ⌜ r ≡ plainFrom (now (s .entry)) e 8 ⌝ }
+// Whether all bytes stand for themselves. Each test is a loop of its own, which tests several bytes by one instruction.
+fn all_ordinary(s: &[u8]) -> bool
+    ensures { λ r. ⌜ r ≡ allPass isOrdinary (now (s .entry)) ⌝ }
 {
-    let mut plain = true;
-    let mut k = 0;
-    while k < BLOCK {
-        plain = plain & is_plain(s[e + k]);
-        k += 1;
+    if !lacks(s, b'"') {
+        return false;
     }
-    plain
+    if !lacks(s, b'\\') {
+        return false;
+    }
+    lacks(s, b'\n')
 }
 
-// Passes over blocks of plain bytes from i on. Where escapes follow each other there are none, and the first byte says it.
-fn skip_blocks(s: &[u8], i: usize) -> usize
+// Whether all bytes stand for themselves and are characters of their own.
+fn all_plain(s: &[u8]) -> bool
+    ensures { λ r. ⌜ r ≡ allPass isPlain (now (s .entry)) ⌝ }
+{
+    if !all_ascii(s) {
+        return false;
+    }
+    all_ordinary(s)
+}
+
+// The end of the blocks from i on of bytes that stand for themselves.
+fn past_ordinary(s: &[u8], i: usize) -> usize
     requires { ⌜ i ≤ length (now s) ⌝ }
-    ensures { λ r. ⌜ WithinRuns (now (s .entry)) i r ⌝ }
+    ensures { λ r. ⌜ Ahead inOrdinary (now (s .entry)) i r ⌝ }
 {
     let mut e = i;
     while BLOCK <= s.len() - e {
-        if !is_plain(s[e]) {
+        let end = e + BLOCK;
+        if !all_ordinary(&s[e..end]) {
             return e;
         }
-        if is_plain_block(s, e) {
-            e += BLOCK;
-        } else {
+        e = end;
+    }
+    e
+}
+
+// The same of plain bytes.
+fn past_plain(s: &[u8], i: usize) -> usize
+    requires { ⌜ i ≤ length (now s) ⌝ }
+    ensures { λ r. ⌜ Ahead inPlain (now (s .entry)) i r ⌝ }
+{
+    let mut e = i;
+    while BLOCK <= s.len() - e {
+        let end = e + BLOCK;
+        if !all_plain(&s[e..end]) {
             return e;
         }
+        e = end;
     }
     e
 }
@@ -221,7 +246,7 @@ pub fn ordinary_end(s: &[u8], i: usize) -> usize
     requires { ⌜ i ≤ length (now s) ⌝ }
     ensures { λ r. ⌜ r ≡ reach inOrdinary (now (s .entry)) i ⌝ }
 {
-    let mut e = skip_blocks(s, i);
+    let mut e = past_ordinary(s, i);
     while e < s.len() {
         if is_ordinary(s[e]) {
             e += 1;
@@ -240,7 +265,7 @@ fn plain_end(s: &[u8], i: usize, need: u8) -> usize
     if need != 0 {
         return i;
     }
-    let mut e = skip_blocks(s, i);
+    let mut e = past_plain(s, i);
     while e < s.len() {
         if is_plain(s[e]) {
             e += 1;

@@ -10,7 +10,7 @@ ghost use Rattle.utf8.specs.Ascii.{isAscii, ascii};
 const BLOCK: usize = 16;
 
 // Whether all bytes are ASCII. It looks at every byte, so that several can be tested by one instruction.
-fn all_ascii(s: &[u8]) -> bool
+pub fn all_ascii(s: &[u8]) -> bool
     ensures { λ r. ⌜ r ≡ allPass isAscii (now (s .entry)) ⌝ }
 {
     let mut all = true;

@@ -1,5 +1,5 @@
 // UTF-8 by RFC 3629: the check of a text, the check one byte at a time, and characters.
-mod ascii;
+pub mod ascii;
 pub mod character;
 pub mod check;
 pub mod state;

@@ -15,11 +15,11 @@ Inv-loop s i e₀ e = reach inOrdinary s e ≡ reach inOrdinary s i
 abbrev μ-loop : tie.MeasureT-loop
 μ-loop s i e₀ e = length s - e
 
-skip-blocks-requires : tie.Need-skip-blocks-requires Inv-loop μ-loop
-skip-blocks-requires c κs = search needs
+past-ordinary-requires : tie.Need-past-ordinary-requires Inv-loop μ-loop
+past-ordinary-requires c κs = search needs
 
 loop-holds : tie.Need-loop-holds Inv-loop μ-loop
-loop-holds c = search needs
+loop-holds c = c .past-ordinary .ensures .same
 
 shared-slice-read-is-ordinary : tie.Need-shared-slice-read-is-ordinary Inv-loop μ-loop
 shared-slice-read-is-ordinary c = search needs
@@ -48,7 +48,7 @@ ordinary-end-spec =
     (tie.spec
     Inv-loop
     μ-loop
-    skip-blocks-requires
+    past-ordinary-requires
     loop-holds
     shared-slice-read-is-ordinary
     is-ordinary-requires

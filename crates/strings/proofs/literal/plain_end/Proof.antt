@@ -18,11 +18,11 @@ abbrev μ-loop : tie.MeasureT-loop
 returns : tie.Need-returns Inv-loop μ-loop
 returns c = search scan-none
 
-skip-blocks-requires : tie.Need-skip-blocks-requires Inv-loop μ-loop
-skip-blocks-requires c κs = search needs
+past-plain-requires : tie.Need-past-plain-requires Inv-loop μ-loop
+past-plain-requires c κs = search needs
 
 loop-holds : tie.Need-loop-holds Inv-loop μ-loop
-loop-holds c = search needs
+loop-holds c = c .past-plain .ensures .same
 
 shared-slice-read-is-plain : tie.Need-shared-slice-read-is-plain Inv-loop μ-loop
 shared-slice-read-is-plain c = search needs
@@ -52,7 +52,7 @@ plain-end-spec =
     Inv-loop
     μ-loop
     returns
-    skip-blocks-requires
+    past-plain-requires
     loop-holds
     shared-slice-read-is-plain
     is-plain-requires

@@ -1,23 +1,25 @@
--- Laws of `decode`, at an offset of the token: what one step makes of it, a claim from the claims of its steps, and a run of bytes that stand
--- for themselves. By induction on the bytes that are left. Assumes nothing.
+-- Laws of `decode`, at an offset of the token: what one step makes of it, a claim from the claims of its steps, bytes that stand for themselves,
+-- and escapes of one letter. By induction on the bytes that are left. Assumes nothing.
 use mathlib.Core.Path.{_≡_, refl, sym, ap, _∙_, subst}
 use mathlib.Core.Bool.{Bool, true, false, not, _&&_}
 use mathlib.Core.List.{List, [], _∷_}
-use Prim.Native.Nat.{ℕ, zero, suc, _+_, _-_, _≤_, _<_}
+use Prim.Native.Nat.{ℕ, zero, suc, _+_, _-_, _*_, _≤_, _<_}
 use native.Mathlib.Nat.{add-zero, add-suc, suc-add}
 use native.Mathlib.Omega.{arith}
-use borrow.Author.Tests.{not-true}
-use lib.Dec.{eqb, lit≤}
+use borrow.Author.Tests.{not-true, eqb-true}
+use lib.Dec.{eqb, lit≤, eqb·suc-zero}
 use lib.ListN.{length, drop, take, length-drop}
-use lib.Seq.{drop-drop}
+use lib.Seq.{drop-drop, length-take-le, getD-take, getD-drop}
 use Rattle.base.specs.Choice.{pick}
 use Rattle.base.specs.Bytes.{byte}
-use Rattle.base.specs.Runs.{run, reach}
-use Rattle.base.proofs.Tests.{and-left, and-right}
+use Rattle.base.specs.Runs.{reach}
+use Rattle.base.specs.Blocks.{allPass}
+use Rattle.base.proofs.Reaches.{reach-le, reach-ge, reach-all}
+use Rattle.base.proofs.Tests.{and-left, and-right, true-false}
 use Rattle.lexeme.specs.declared.Mode.{Mode}
 use Rattle.lexeme.specs.declared.Mode.the-variants.{Strict, Tolerant}
-use Rattle.strings.specs.Piece.{pieceOf}
-use Rattle.strings.specs.Plain.{isOrdinary}
+use Rattle.strings.specs.Piece.{simpleOf, escapePiece, pieceOf}
+use Rattle.strings.specs.Plain.{isOrdinary, inOrdinary, simpleAt, simpleBytes}
 use Rattle.strings.specs.Decode.{Decoded, stepOf, stepNotes, prepend, finish, follow, decode}
 use Rattle.strings.specs.Literal.{endReason}
 use Rattle.strings.specs.declared.piece.Piece.{Piece}
@@ -167,25 +169,76 @@ ordinary-piece x l e =
     let u = and-left (p && q) r e in
     simp (not-true (eqb x 0x22) (and-left p q u), not-true (eqb x 0x0A) (and-right p q u), not-true (eqb x 0x5C) (and-right (p && q) r e))
 
--- a run of them
-module _ (m : Mode) (p : ℕ → ℕ → Bool) (ordinary : (a b : ℕ) → p a b ≡ true → isOrdinary a ≡ true) where
-  decode-run : (at : ℕ) (l : List ℕ) → decode m at 0 l ≡ prepend (take (run p l) l) [] (decode m (at + run p l) 0 (drop (run p l) l))
-  unfolding run decode stepOf stepNotes
-  decode-run at [] = rw add-zero
-  decode-run at (x ∷ l) = go (p x (byte l 0)) refl (decode-run (suc at) l)
-    where
-      go : (b : Bool) → p x (byte l 0) ≡ b
-          → decode m (suc at) 0 l ≡ prepend (take (run p l) l) [] (decode m (suc at + run p l) 0 (drop (run p l) l))
-          → decode m at 0 (x ∷ l) ≡ prepend (take (pick b (suc (run p l)) 0) (x ∷ l)) []
-          (decode m (at + pick b (suc (run p l)) 0) 0 (drop (pick b (suc (run p l)) 0) (x ∷ l)))
-      go true e ih =
-          rw (ordinary-piece x l (ordinary x (byte l 0) e))
-          (ap (prepend (x ∷ []) []) (ih ∙ ap (λ (k : ℕ). prepend (take (run p l) l) [] (decode m k 0 (drop (run p l) l))) (omega arith)))
-      go false e ih = rw add-zero
+-- n of them
+decode-ordinary : (m : Mode) (n at : ℕ) (l : List ℕ) → n ≤ length l → allPass isOrdinary (take n l) ≡ true
+    → decode m at 0 l ≡ prepend (take n l) [] (decode m (at + n) 0 (drop n l))
+unfolding allPass decode stepOf stepNotes
+decode-ordinary m zero at l h e = rw (add-zero at)
+decode-ordinary m (suc n) at [] h e = absurd (omega arith)
+decode-ordinary m (suc n) at (x ∷ l) h e =
+    let a : Bool = isOrdinary x in
+    let k : suc at + n ≡ at + suc n = omega arith in
+    rw (ordinary-piece x l (and-left a (allPass isOrdinary (take n l)) e))
+    (ap (prepend (x ∷ []) [])
+    (decode-ordinary m n (suc at) l (omega arith) (and-right a (allPass isOrdinary (take n l)) e)
+    ∙ ap (λ (j : ℕ). prepend (take n l) [] (decode m j 0 (drop n l))) k))
 
-  -- the run from i on gives its own bytes, and then what the text from its end on gives
-  pub from-run : (s : List ℕ) (i : ℕ) → from m s i ≡ prepend (take (reach p s i - i) (drop i s)) [] (from m s (reach p s i))
-  unfolding reach
-  from-run s i =
-      let k : i + run p (drop i s) - i ≡ run p (drop i s) = omega arith in
-      decode-run i (drop i s) ∙ rw (k, drop-drop (run p (drop i s)) i s)
+pub from-ordinary : (m : Mode) (s : List ℕ) (i r : ℕ) → i ≤ r → r ≤ length s → allPass isOrdinary (take (r - i) (drop i s)) ≡ true
+    → from m s i ≡ prepend (take (r - i) (drop i s)) [] (from m s r)
+from-ordinary m s i r h l e =
+    let k : i + (r - i) ≡ r = omega arith in
+    decode-ordinary m (r - i) i (drop i s) (omega (arith, length-drop i s)) e ∙ rw (drop-drop (r - i) i s, k)
+
+-- a test that each byte passes
+pub all-pass : (t : ℕ → Bool) (l : List ℕ) → ((k : ℕ) → k < length l → t (byte l k) ≡ true) → allPass t l ≡ true
+unfolding allPass
+all-pass t [] f = refl
+all-pass t (x ∷ l) f = rw (f 0 (omega arith)) (all-pass t l (λ k h. f (suc k) (omega arith)))
+
+-- the run from i on gives its own bytes, and then what the text from its end on gives
+pub from-run : (m : Mode) (s : List ℕ) (i : ℕ) → i ≤ length s
+    → from m s i ≡ prepend (take (reach inOrdinary s i - i) (drop i s)) [] (from m s (reach inOrdinary s i))
+from-run m s i h =
+    let n : ℕ = reach inOrdinary s i - i in
+    let l : length (take n (drop i s)) ≡ n = length-take-le n (drop i s) (omega (arith, length-drop i s, reach-le inOrdinary s i h)) in
+    from-ordinary m s i (reach inOrdinary s i) (reach-ge inOrdinary s i) (reach-le inOrdinary s i h)
+    (all-pass isOrdinary (take n (drop i s))
+    (λ k q. rw (getD-take n (drop i s) k 0 (omega arith), getD-drop i s k 0) (reach-all inOrdinary s i (i + k) (omega arith) (omega (arith, reach-ge inOrdinary s i)))))
+
+-- an escape of one letter
+simple-piece : (x y : ℕ) (l : List ℕ) → eqb (simpleAt x y) 0 ≡ false → pieceOf (x ∷ y ∷ l) ≡ piece.Bytes 1 (simpleAt x y) 0 0 0 2
+unfolding simpleAt pieceOf escapePiece
+simple-piece x y l e = go (eqb x 0x5C) refl e
+  where
+    go : (b : Bool) → eqb x 0x5C ≡ b → eqb (pick b (simpleOf y) 0) 0 ≡ false → pieceOf (x ∷ y ∷ l) ≡ piece.Bytes 1 (pick b (simpleOf y) 0) 0 0 0 2
+    go true q f = let z = eqb-true x 0x5C q in rw (z, eqb·suc-zero (length l), f)
+    go false q f = true-false true refl f
+
+-- as many as there are
+decode-simple : (m : Mode) (at : ℕ) (l : List ℕ)
+    → decode m at 0 l ≡ prepend (simpleBytes l) [] (decode m (at + 2 * length (simpleBytes l)) 0 (drop (2 * length (simpleBytes l)) l))
+unfolding simpleBytes decode stepOf stepNotes
+decode-simple m at [] = rw add-zero
+decode-simple m at (x ∷ []) = rw add-zero
+decode-simple m at (x ∷ y ∷ l) = go (eqb (simpleAt x y) 0) refl (decode-simple m (suc (suc at)) l)
+  where
+    v : ℕ
+    v = simpleAt x y
+
+    n : ℕ
+    n = length (simpleBytes l)
+
+    go : (b : Bool) → eqb (simpleAt x y) 0 ≡ b
+        → decode m (suc (suc at)) 0 l ≡ prepend (simpleBytes l) [] (decode m (suc (suc at) + 2 * n) 0 (drop (2 * n) l))
+        → decode m at 0 (x ∷ y ∷ l)
+        ≡ prepend (pick b [] (v ∷ simpleBytes l)) []
+        (decode m (at + 2 * length (pick b [] (v ∷ simpleBytes l))) 0 (drop (2 * length (pick b [] (v ∷ simpleBytes l))) (x ∷ y ∷ l)))
+    go true e ih = rw add-zero
+    go false e ih =
+        let k : 2 * suc n ≡ suc (suc (2 * n)) = omega arith in
+        let j : suc (suc at) + 2 * n ≡ at + suc (suc (2 * n)) = omega arith in
+        rw (simple-piece x y l e, k) (ap (prepend (v ∷ []) []) (ih ∙ rw j))
+
+pub from-simple : (m : Mode) (s : List ℕ) (i n : ℕ) → n ≡ length (simpleBytes (drop i s))
+    → from m s i ≡ prepend (simpleBytes (drop i s)) [] (from m s (i + 2 * n))
+from-simple m s i n e = decode-simple m i (drop i s) ∙ rw (← e, drop-drop (2 * n) i s)

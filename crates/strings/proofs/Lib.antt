@@ -3,6 +3,7 @@ pub mod Escapes
 pub mod Fine
 pub mod Steps
 pub mod Decodes
+pub mod Parts
 pub mod Turns
 pub mod Bounds
 pub mod Judges

@@ -81,7 +81,7 @@ module _ (text : List ℕ) (start : Place) (out₀ : List ℤ) (at : ℕ) (s : L
     (u : Noting text start out₀ at s out i p place) (e : ℕ) (ee : e ≡ reach inOrdinary s i) where
   same-left : literalNotes Tolerant (from Tolerant s i) ≡ literalNotes Tolerant (from Tolerant s e)
   unfolding literalNotes
-  same-left = rw ee (ap (literalNotes Tolerant) (from-run Tolerant inOrdinary (λ a b t. t) s i))
+  same-left = rw ee (ap (literalNotes Tolerant) (from-run Tolerant s i (u .inside)))
 
   pub run-in : e ≤ length s
   run-in = rw ee (reach-le inOrdinary s i (u .inside))

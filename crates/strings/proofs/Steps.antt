@@ -6,7 +6,7 @@ use Prim.Native.Nat.{ℕ, suc, _+_, _-_, _^_, _≤_, _<_}
 use native.Mathlib.Numerals.{add-one}
 use native.Mathlib.Omega.{arith}
 use borrow.Author.Tests.{eq-eqb, ne-eqb, not-true, not-false}
-use lib.Dec.{eqb, ltb}
+use lib.Dec.{eqb}
 use lib.ListN.{length, drop, take, set, length-drop}
 use lib.Seq.{sets}
 use mir.Syntax.{w64}
@@ -15,7 +15,7 @@ use Rattle.base.specs.Choice.{pick}
 use Rattle.base.specs.Bytes.{byte}
 use Rattle.base.specs.Runs.{reach}
 use Rattle.base.specs.Blocks.{allPass, isNot}
-use Rattle.base.proofs.Tests.{and-right, and-false}
+use Rattle.base.proofs.Tests.{and-false}
 use Rattle.base.proofs.Reaches.{rest-is, reach-step, reach-stop, reach-end}
 use Rattle.utf8.specs.Ascii.{isAscii}
 use Rattle.utf8.specs.State.{push, pushAll}
@@ -23,7 +23,7 @@ use Rattle.utf8.specs.declared.state.State.{State}
 use Rattle.lexeme.specs.declared.Mode.{Mode}
 use Rattle.lexeme.specs.declared.Mode.the-variants.{Strict, Tolerant}
 use Rattle.strings.specs.Piece.{pieceOf}
-use Rattle.strings.specs.Plain.{isOrdinary, isPlain, inPlain}
+use Rattle.strings.specs.Plain.{isOrdinary, isPlain}
 use Rattle.strings.specs.Decode.{stepOf}
 use Rattle.strings.specs.declared.piece.Piece.{Piece}
 use Rattle.strings.specs.declared.piece.Piece.the-variants as piece
@@ -142,18 +142,8 @@ module _ (f : ℕ → Bool) (s : List ℕ) (i e : ℕ) (inv : reach (λ (a b : �
     pub scan-stop : t ≡ false → e ≡ reach (λ (a b : ℕ). f a) s i
     scan-stop y = sym (reach-stop (λ (a b : ℕ). f a) s e h (sym q ∙ y)) ∙ inv
 
-    -- the same of a run that is looked for only where nothing is needed
-    pub scan-stop-0 : (need : ℕ) → need ≡ 0 → t ≡ false → e ≡ pick (eqb need 0) (reach (λ (a b : ℕ). f a) s i) i
-    scan-stop-0 need z y = rw (eq-eqb need 0 z) (scan-stop y)
-
   pub scan-end : length s ≤ e → e ≡ reach (λ (a b : ℕ). f a) s i
   scan-end h = sym (reach-end (λ (a b : ℕ). f a) s e h) ∙ inv
-
-  pub scan-end-0 : (need : ℕ) → need ≡ 0 → length s ≤ e → e ≡ pick (eqb need 0) (reach (λ (a b : ℕ). f a) s i) i
-  scan-end-0 need z h = rw (eq-eqb need 0 z) (scan-end h)
-
-pub scan-none : (need i x : ℕ) → (need ≡ 0 → ⊥) → i ≡ pick (eqb need 0) x i
-scan-none need i x n = rw (ne-eqb need 0 n)
 
 -- a test of two parts passes all bytes where each part does
 both-both : (a b c d : Bool) → (a && b) && (c && d) ≡ (a && c) && (b && d)
@@ -196,8 +186,3 @@ module _ (s : List ℕ) where
 
     pub all-low : not x ≡ false → (y : Bool) → y ≡ allPass isOrdinary s → y ≡ allPass isPlain s
     all-low f y g = rw (plain-all, ← e, not-false x f, ← g)
-
--- plain bytes stand for themselves
-pub plain-ordinary : (a b : ℕ) → inPlain a b ≡ true → isOrdinary a ≡ true
-unfolding isPlain
-plain-ordinary a b e = and-right (ltb a 0x80) (isOrdinary a) e

@@ -3,36 +3,36 @@
 use mathlib.Core.Path.{_≡_, refl, sym, ap, _∙_}
 use mathlib.Core.Bool.{Bool, true, false}
 use mathlib.Core.List.{List, [], _∷_, _++_}
-use Prim.Native.Nat.{ℕ, suc, _+_, _-_, _^_, _≤_, _<_}
+use Prim.Native.Nat.{ℕ, _+_, _-_, _*_, _^_, _≤_, _<_}
 use native.Mathlib.Nat.{add-zero, add-assoc}
 use native.Mathlib.Omega.{arith}
-use borrow.Author.Tests.{ltb-true, eqb-true}
-use lib.Dec.{eqb, ltb, lit≤}
+use borrow.Author.Tests.{eqb-true, eqb-false}
+use lib.Dec.{eqb, lit≤}
 use lib.ListN.{length, drop, take, length-drop, length-append}
 use lib.Seq.{sets, length-sets, length-take-le}
 use mir.Syntax.{w64}
 use mir.Val.{Fits}
 use Rattle.base.specs.Choice.{pick}
-use Rattle.base.specs.Runs.{run, reach}
+use Rattle.base.specs.Runs.{reach}
 use Rattle.base.proofs.Reaches.{reach-le, reach-ge}
-use Rattle.base.proofs.Stores.{sets-append}
-use Rattle.base.proofs.Tests.{and-left}
+use Rattle.base.proofs.Stores.{sets-append, empty}
+use Rattle.utf8.specs.Grammar.{Octets}
 use Rattle.utf8.specs.State.{fresh, pushAll}
 use Rattle.utf8.specs.declared.state.State.{State}
-use Rattle.utf8.proofs.States.{push-append}
+use Rattle.utf8.proofs.States.{push-append, octets-fed}
 use Rattle.lexeme.specs.Lexeme.{Note}
 use Rattle.lexeme.specs.declared.Mode.{Mode}
 use Rattle.strings.specs.Piece.{pieceOf}
-use Rattle.strings.specs.Plain.{isOrdinary, isPlain, inOrdinary, inPlain}
+use Rattle.strings.specs.Plain.{inOrdinary, simpleBytes, Easy}
 use Rattle.strings.specs.Decode.{Decoded, stepOf, letterDetail, stepNotes, prepend, measured}
 use Rattle.strings.specs.Literal.{literalOf}
 use Rattle.strings.specs.declared.literal.End.{End}
 use Rattle.strings.specs.declared.literal.Step.{Step}
 use Rattle.strings.specs.declared.literal.Step.the-variants.{Go, Stop}
-use Rattle.utf8.proofs.Settles.{Settled, settled, push-ascii}
+use Rattle.utf8.proofs.Settles.{Settled, settled}
 use Rattle.strings.proofs.Fine.{Taken}
-use Rattle.strings.proofs.Steps.{plain-ordinary}
-use Rattle.strings.proofs.Decodes.{from, went, from-stop, from-go, from-run}
+use Rattle.strings.proofs.Decodes.{from, went, from-stop, from-go, from-run, from-simple}
+use Rattle.strings.proofs.Parts.{simple-inside}
 
 pub length-four : (n a b c d : ℕ) → n ≤ 4 → length (take n (a ∷ b ∷ c ∷ d ∷ [])) ≡ n
 length-four n a b c d h = length-take-le n (a ∷ b ∷ c ∷ d ∷ []) h
@@ -57,24 +57,14 @@ measured-prepend : (c r : ℕ) (t : State) (bs : List ℕ) (ns : List Note) (d :
     → measured c r t (prepend bs ns d) ≡ measured (c + length bs) (r + length ns) (pushAll t bs) d
 measured-prepend c r t bs ns d = simp (length-append, add-assoc, push-append)
 
--- the bytes of a run
-run-length : (p : ℕ → ℕ → Bool) (s : List ℕ) (i : ℕ) → i ≤ length s → length (take (reach p s i - i) (drop i s)) ≡ reach p s i - i
-run-length p s i h = length-take-le (reach p s i - i) (drop i s) (omega (arith, length-drop i s, reach-le p s i h))
-
--- plain bytes leave the state between characters
-plain-fed : (l : List ℕ) → pushAll fresh (take (run inPlain l) l) ≡ fresh
-unfolding run pushAll isPlain
-plain-fed [] = refl
-plain-fed (x ∷ l) = go (isPlain x) refl (plain-fed l)
+-- whole characters leave the state as it is, where none has begun
+fed-still : (t : State) (l : List ℕ) → Settled t → Octets l → ((t .need ≡ 0 → ⊥) → length l ≡ 0) → pushAll t l ≡ t
+unfolding pushAll
+fed-still t l f o none = go (eqb (t .need) 0) refl
   where
-    go : (b : Bool) → isPlain x ≡ b → pushAll fresh (take (run inPlain l) l) ≡ fresh → pushAll fresh (take (pick b (suc (run inPlain l)) 0) (x ∷ l)) ≡ fresh
-    go true e ih =
-        ap (λ (t : State). pushAll t (take (run inPlain l) l)) (push-ascii x (ltb-true x 0x80 (and-left (ltb x 0x80) (isOrdinary x) e))) ∙ ih
-    go false e ih = refl
-
-reach-fed : (s : List ℕ) (i : ℕ) → pushAll fresh (take (reach inPlain s i - i) (drop i s)) ≡ fresh
-unfolding reach
-reach-fed s i = let k : i + run inPlain (drop i s) - i ≡ run inPlain (drop i s) = omega arith in rw k (plain-fed (drop i s))
+    go : (b : Bool) → eqb (t .need) 0 ≡ b → pushAll t l ≡ t
+    go true e = rw (f (eqb-true (t .need) 0 e)) (octets-fed o)
+    go false e = rw (empty l (none (eqb-false (t .need) 0 e)))
 
 -- `measure_literal` at i
 pub record Measuring (m : Mode) (s : List ℕ) (i count reports : ℕ) (state : State) : Type 0 where
@@ -88,50 +78,34 @@ pub measuring-first : (m : Mode) (s : List ℕ) (t : State) → 0 < length s →
 measuring-first m s t h e = record { inside = h; room = lit≤ tt; room′ = lit≤ tt; settled = λ _. e; is = rw e refl }
 
 module _ (m : Mode) (s : List ℕ) (i count reports : ℕ) (state : State) (u : Measuring m s i count reports state)
-    (e : ℕ) (ee : e ≡ pick (eqb (state .need) 0) (reach inPlain s i) i) where
-  -- after the run
-  ran : Measuring m s e (count + (e - i)) reports state
-  ran = go (eqb (state .need) 0) refl ee
-    where
-      go : (b : Bool) → eqb (state .need) 0 ≡ b → e ≡ pick b (reach inPlain s i) i → Measuring m s e (count + (e - i)) reports state
-      go false t q =
-          let z : count + (i - i) ≡ count = omega arith in
-          rw (q, z) u
-      go true t q =
-          let h = u .inside in
-          let f : state ≡ fresh = u .settled (eqb-true (state .need) 0 t) in
-          let g = reach-ge inPlain s i in
-          rw q
-          (record {
-            inside = reach-le inPlain s i h;
-            room = omega (arith, u .room);
-            room′ = omega (arith, u .room′);
-            settled = u .settled;
-            is =
-                u .is
-                ∙ ap (measured count reports state) (from-run m inPlain plain-ordinary s i)
-                ∙ measured-prepend count reports state (take (reach inPlain s i - i) (drop i s)) [] (from m s (reach inPlain s i))
-                ∙ rw (run-length inPlain s i h, f, reach-fed s i, add-zero reports);
-          })
+    (e size : ℕ) (part : Easy s i e size × ((state .need ≡ 0 → ⊥) → size ≡ 0)) where
+  -- after the part
+  ran : Measuring m s e (count + size) reports state
+  ran =
+      let p : Easy s i e size = part .0 in
+      record {
+        inside = p .inside;
+        room = omega (arith, u .room, p .later);
+        room′ = omega (arith, u .room′, p .later);
+        settled = u .settled;
+        is =
+            u .is
+            ∙ ap (measured count reports state) (p .is m)
+            ∙ measured-prepend count reports state (p .bytes) [] (from m s e)
+            ∙ rw (p .count, fed-still state (p .bytes) (u .settled) (p .whole) (λ n. p .count ∙ part .1 n), add-zero reports);
+      }
 
-  pub run-ge : i ≤ e
-  run-ge = go (eqb (state .need) 0) ee
-    where
-      go : (b : Bool) → e ≡ pick b (reach inPlain s i) i → i ≤ e
-      go true q = rw q (reach-ge inPlain s i)
-      go false q = omega arith
+  pub part-fits : length s < 2 ^ 64 → Fits w64 (count + size)
+  part-fits l = let v = ran in omega arith
 
-  pub run-fits : length s < 2 ^ 64 → Fits w64 (count + (e - i))
-  run-fits l = let v = ran in omega arith
-
-  pub run-in : e ≤ length s
-  run-in = ran .inside
+  pub part-in : e ≤ length s
+  part-in = ran .inside
 
   module _ (q : Step) (is : q ≡ stepOf m e (pieceOf (drop e s))) where
     pub measuring-stop : (x : End) (p : ℕ) → q ≡ Stop x p
-        → record { count = count + (e - i); reports = reports; stop = p; end = x; state = state } ≡ measured 0 0 fresh (literalOf m s)
+        → record { count = count + size; reports = reports; stop = p; end = x; state = state } ≡ measured 0 0 fresh (literalOf m s)
     unfolding pushAll literalOf
-    measuring-stop x p h = sym (ran .is ∙ ap (measured (count + (e - i)) reports state) (from-stop m s e q is x p h) ∙ simp add-zero)
+    measuring-stop x p h = sym (ran .is ∙ ap (measured (count + size) reports state) (from-stop m s e q is x p h) ∙ simp add-zero)
 
     module _ (n a b c d used reason : ℕ) (h : q ≡ Go n a b c d used reason) where
       bytes : Taken n used (length (drop e s))
@@ -140,7 +114,7 @@ module _ (m : Mode) (s : List ℕ) (i count reports : ℕ) (state : State) (u : 
       pub feed-four : n ≤ 4
       feed-four = bytes .four
 
-      pub count-fits : length s < 2 ^ 64 → Fits w64 (count + (e - i) + n)
+      pub count-fits : length s < 2 ^ 64 → Fits w64 (count + size + n)
       count-fits l = let v = ran in let t = bytes in omega (arith, length-drop e s)
 
       pub reports-fits : length s < 2 ^ 64 → (k : ℕ) → k ≡ pick (eqb reason 0) 0 1 → Fits w64 (reports + k)
@@ -150,10 +124,10 @@ module _ (m : Mode) (s : List ℕ) (i count reports : ℕ) (state : State) (u : 
       offset-fits l = let v = ran in let t = bytes in omega (arith, length-drop e s)
 
       pub offset-less : length s - (e + used) < length s - i
-      offset-less = let v = ran in let t = bytes in omega (arith, length-drop e s, run-ge)
+      offset-less = let v = ran in let t = bytes in omega (arith, length-drop e s, v .inside, part .0 .later)
 
       pub measuring-go : (t : State) (k : ℕ) → t ≡ pushAll state (take n (a ∷ b ∷ c ∷ d ∷ [])) → k ≡ pick (eqb reason 0) 0 1
-          → Measuring m s (e + used) (count + (e - i) + n) (reports + k) t
+          → Measuring m s (e + used) (count + size + n) (reports + k) t
       measuring-go t k et ek =
           let f : Taken n used (length (drop e s)) = bytes in
           let v = ran in
@@ -166,8 +140,8 @@ module _ (m : Mode) (s : List ℕ) (i count reports : ℕ) (state : State) (u : 
             settled = rw et (settled state bs (u .settled));
             is =
                 v .is
-                ∙ ap (measured (count + (e - i)) reports state) (from-go m s e q is n a b c d used reason h)
-                ∙ measured-prepend (count + (e - i)) reports state bs ns (from m s (e + used))
+                ∙ ap (measured (count + size) reports state) (from-go m s e q is n a b c d used reason h)
+                ∙ measured-prepend (count + size) reports state bs ns (from m s (e + used))
                 ∙ rw (length-four n a b c d (f .four), notes-count reason b e, et, ek) refl;
           }
 
@@ -196,73 +170,88 @@ stored m s out₀ place out i p u bs n j l h e o q =
       is = u .is ∙ ap (sets out p) e ∙ sets-append out p bs (from m s j .bytes) ∙ rw (l, q) refl;
     }
 
-module _ (m : Mode) (s out₀ : List ℕ) (place : ℕ) (out : List ℕ) (i p : ℕ) (u : Writing m s out₀ place out i p)
-    (e : ℕ) (ee : e ≡ reach inOrdinary s i) where
-  run-bytes : from m s i .bytes ≡ take (e - i) (drop i s) ++ from m s e .bytes
-  run-bytes = rw ee (ap (λ (d : Decoded). d .bytes) (from-run m inOrdinary (λ a b t. t) s i))
+module _ (m : Mode) (s out₀ : List ℕ) (place : ℕ) (out : List ℕ) (i p : ℕ) (u : Writing m s out₀ place out i p) where
+  -- a run of bytes that stand for themselves
+  module _ (e : ℕ) (ee : e ≡ reach inOrdinary s i) where
+    run-bytes : from m s i .bytes ≡ take (e - i) (drop i s) ++ from m s e .bytes
+    run-bytes = rw ee (ap (λ (d : Decoded). d .bytes) (from-run m s i (u .inside)))
 
-  run-size : length (take (e - i) (drop i s)) ≡ e - i
-  run-size = rw ee (run-length inOrdinary s i (u .inside))
+    pub run-ge : i ≤ e
+    run-ge = rw ee (reach-ge inOrdinary s i)
 
-  run-end : e ≤ length s
-  run-end = rw ee (reach-le inOrdinary s i (u .inside))
+    pub run-in : e ≤ length s
+    run-in = rw ee (reach-le inOrdinary s i (u .inside))
 
-  run-count : length (from m s i .bytes) ≡ (e - i) + length (from m s e .bytes)
-  run-count = ap length run-bytes ∙ length-append (take (e - i) (drop i s)) (from m s e .bytes) ∙ rw run-size refl
+    run-size : length (take (e - i) (drop i s)) ≡ e - i
+    run-size = length-take-le (e - i) (drop i s) (omega (arith, length-drop i s, run-in))
 
-  pub ordinary-ge : i ≤ e
-  ordinary-ge = rw ee (reach-ge inOrdinary s i)
+    run-count : length (from m s i .bytes) ≡ (e - i) + length (from m s e .bytes)
+    run-count = ap length run-bytes ∙ length-append (take (e - i) (drop i s)) (from m s e .bytes) ∙ rw run-size refl
 
-  pub ordinary-in : e ≤ length s
-  ordinary-in = run-end
+    pub copy-room : p + (e - i) ≤ length out
+    copy-room = omega (arith, run-count, u .room, u .same)
 
-  pub copy-room : p + (e - i) ≤ length out
-  copy-room = omega (arith, run-count, u .room, u .same)
+    pub copy-source : i + (e - i) ≤ length s
+    copy-source = omega (arith, run-in, run-ge)
 
-  pub copy-source : i + (e - i) ≤ length s
-  copy-source = omega (arith, run-end, ordinary-ge)
+    pub copy-fits : length out₀ < 2 ^ 64 → Fits w64 (p + (e - i))
+    copy-fits l = omega (arith, copy-room, u .same)
 
-  pub copy-fits : length out₀ < 2 ^ 64 → Fits w64 (p + (e - i))
-  copy-fits l = omega (arith, copy-room, u .same)
+    pub copied : (o : List ℕ) → o ≡ sets out p (take (e - i) (drop i s)) → Writing m s out₀ place o e (p + (e - i))
+    copied o eo = stored m s out₀ place out i p u (take (e - i) (drop i s)) (e - i) e run-size run-in run-bytes o eo
 
-  module _ (o : List ℕ) (eo : o ≡ sets out p (take (e - i) (drop i s))) where
-    copied : Writing m s out₀ place o e (p + (e - i))
-    copied = stored m s out₀ place out i p u (take (e - i) (drop i s)) (e - i) e run-size run-end run-bytes o eo
+  -- escapes of one letter
+  simple-bytes : (n : ℕ) → n ≡ length (simpleBytes (drop i s)) → from m s i .bytes ≡ simpleBytes (drop i s) ++ from m s (i + 2 * n) .bytes
+  simple-bytes n e = ap (λ (d : Decoded). d .bytes) (from-simple m s i n e)
 
-    module _ (q : Step) (is : q ≡ stepOf m e (pieceOf (drop e s))) where
-      pub writing-stop : (x : End) (y : ℕ) → q ≡ Stop x y → o ≡ sets out₀ place (literalOf m s .bytes)
-      unfolding literalOf
-      writing-stop x y h = sym (copied .is ∙ ap (λ (d : Decoded). sets o (p + (e - i)) (d .bytes)) (from-stop m s e q is x y h))
+  pub simple-room : p + length (simpleBytes (drop i s)) ≤ length out
+  simple-room =
+      let n : ℕ = length (simpleBytes (drop i s)) in
+      omega (arith, ap length (simple-bytes n refl) ∙ length-append (simpleBytes (drop i s)) (from m s (i + 2 * n) .bytes), u .room, u .same)
 
-      module _ (n a b c d used reason : ℕ) (h : q ≡ Go n a b c d used reason) where
-        t : Taken n used (length (drop e s))
-        t = went m s e q is n a b c d used reason h .taken
+  module _ (n : ℕ) (en : n ≡ length (simpleBytes (drop i s))) (o : List ℕ) (eo : o ≡ sets out p (simpleBytes (drop i s))) where
+    pub simple-in : i + 2 * n ≤ length s
+    simple-in = simple-inside s i n (u .inside) en
 
-        bytes-go : from m s e .bytes ≡ take n (a ∷ b ∷ c ∷ d ∷ []) ++ from m s (e + used) .bytes
-        bytes-go = ap (λ (x : Decoded). x .bytes) (from-go m s e q is n a b c d used reason h)
+    pub unescaped : Writing m s out₀ place o (i + 2 * n) (p + n)
+    unescaped = stored m s out₀ place out i p u (simpleBytes (drop i s)) n (i + 2 * n) (sym en) simple-in (simple-bytes n en) o eo
 
-        count-go : length (from m s e .bytes) ≡ n + length (from m s (e + used) .bytes)
-        count-go = rw (bytes-go, length-append, length-four n a b c d (t .four)) refl
+    pub simple-fits : length out₀ < 2 ^ 64 → Fits w64 (p + n)
+    simple-fits l = omega (arith, unescaped .room)
 
-        in-text : e + used ≤ length s
-        in-text = omega (arith, t .left, length-drop e s, run-end)
+    -- where there are none
+    pub no-escape : n ≡ 0 → Writing m s out₀ place o i p
+    no-escape z = rw (z, add-zero i, add-zero p) at unescaped
 
-        pub put-four : n ≤ 4
-        put-four = t .four
+  -- a step
+  module _ (q : Step) (is : q ≡ stepOf m i (pieceOf (drop i s))) where
+    pub writing-stop : (x : End) (y : ℕ) → q ≡ Stop x y → out ≡ sets out₀ place (literalOf m s .bytes)
+    unfolding literalOf
+    writing-stop x y h = sym (u .is ∙ ap (λ (d : Decoded). sets out p (d .bytes)) (from-stop m s i q is x y h))
 
-        pub put-room : p + (e - i) + n ≤ length o
-        put-room = let w = copied in omega (arith, count-go)
+    module _ (n a b c d used reason : ℕ) (h : q ≡ Go n a b c d used reason) where
+      t : Taken n used (length (drop i s))
+      t = went m s i q is n a b c d used reason h .taken
 
-        pub put-fits : length out₀ < 2 ^ 64 → Fits w64 (p + (e - i) + n)
-        put-fits l = let w = copied in omega (arith, put-room)
+      bytes-go : from m s i .bytes ≡ take n (a ∷ b ∷ c ∷ d ∷ []) ++ from m s (i + used) .bytes
+      bytes-go = ap (λ (x : Decoded). x .bytes) (from-go m s i q is n a b c d used reason h)
 
-        pub text-fits : length s < 2 ^ 64 → Fits w64 (e + used)
-        text-fits l = omega (arith, in-text)
+      count-go : length (from m s i .bytes) ≡ n + length (from m s (i + used) .bytes)
+      count-go = rw (bytes-go, length-append, length-four n a b c d (t .four)) refl
 
-        pub text-less : length s - (e + used) < length s - i
-        text-less = omega (arith, in-text, t .some, ordinary-ge)
+      pub text-in : i + used ≤ length s
+      text-in = omega (arith, t .left, length-drop i s, u .inside)
 
-        pub writing-go : (o₂ : List ℕ) → o₂ ≡ sets o (p + (e - i)) (take n (a ∷ b ∷ c ∷ d ∷ []))
-            → Writing m s out₀ place o₂ (e + used) (p + (e - i) + n)
-        writing-go o₂ eq =
-            stored m s out₀ place o e (p + (e - i)) copied (take n (a ∷ b ∷ c ∷ d ∷ [])) n (e + used) (length-four n a b c d (t .four)) in-text bytes-go o₂ eq
+      -- a turn of the loop that began at k
+      pub text-less : (k : ℕ) → k ≤ i → length s - (i + used) < length s - k
+      text-less k h = omega (arith, text-in, t .some)
+
+      pub put-four : n ≤ 4
+      put-four = t .four
+
+      pub put-room : p + n ≤ length out
+      put-room = omega (arith, count-go, u .room, u .same)
+
+      pub writing-go : (o : List ℕ) → o ≡ sets out p (take n (a ∷ b ∷ c ∷ d ∷ [])) → Writing m s out₀ place o (i + used) (p + n)
+      writing-go o eo =
+          stored m s out₀ place out i p u (take n (a ∷ b ∷ c ∷ d ∷ [])) n (i + used) (length-four n a b c d (t .four)) text-in bytes-go o eo

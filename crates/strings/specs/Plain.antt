@@ -1,7 +1,17 @@
--- Bytes of a string literal that stand for themselves: `lex_string` pushes every byte that is no quote, newline or backslash.
-use mathlib.Core.Bool.{Bool, not, _&&_}
-use Prim.Native.Nat.{ℕ}
+-- Parts of a string literal that are read at once: bytes that stand for themselves, for `lex_string` pushes every byte that is no quote, newline
+-- or backslash, and escapes of one letter.
+use mathlib.Core.Path.{_≡_}
+use mathlib.Core.Bool.{Bool, true, not, _&&_}
+use mathlib.Core.List.{List, [], _∷_}
+use Prim.Native.Nat.{ℕ, _+_, _-_, _≤_}
 use lib.Dec.{ltb, eqb}
+use lib.ListN.{length, take, drop}
+use Rattle.base.specs.Choice.{pick}
+use Rattle.base.specs.Blocks.{allPass}
+use Rattle.utf8.specs.Grammar.{Octets}
+use Rattle.lexeme.specs.declared.Mode.{Mode}
+use Rattle.strings.specs.Piece.{simpleOf}
+use Rattle.strings.specs.Decode.{prepend, decode}
 
 -- no quote, newline or backslash
 unfoldable pub isOrdinary : ℕ → Bool
@@ -11,9 +21,32 @@ isOrdinary b = (not (eqb b 0x22) && not (eqb b 0x0A)) && not (eqb b 0x5C)
 unfoldable pub isPlain : ℕ → Bool
 isPlain b = ltb b 0x80 && isOrdinary b
 
--- the same as tests of a run; what follows the byte does not count
+-- the first as the test of a run; what follows the byte does not count
 abbrev pub inOrdinary : ℕ → ℕ → Bool
 inOrdinary a b = isOrdinary a
 
-abbrev pub inPlain : ℕ → ℕ → Bool
-inPlain a b = isPlain a
+-- the bytes from i to r are whole characters that stand for themselves
+pub record Text (s : List ℕ) (i r : ℕ) : Type 0 where
+  pub later : i ≤ r
+  pub inside : r ≤ length s
+  pub ordinary : allPass isOrdinary (take (r - i) (drop i s)) ≡ true
+  pub whole : Octets (take (r - i) (drop i s))
+
+-- the byte that a backslash and a letter stand for, and 0 where two bytes are no such escape
+unfoldable pub simpleAt : ℕ → ℕ → ℕ
+simpleAt x y = pick (eqb x 0x5C) (simpleOf y) 0
+
+-- the bytes that the escapes of one letter at the front stand for
+unfoldable pub simpleBytes : List ℕ → List ℕ
+simpleBytes [] = []
+simpleBytes (x ∷ []) = []
+simpleBytes (x ∷ y ∷ l) = pick (eqb (simpleAt x y) 0) [] (simpleAt x y ∷ simpleBytes l)
+
+-- in each mode, what stands from i to r gives n bytes, which are whole characters, and no report
+pub record Easy (s : List ℕ) (i r n : ℕ) : Type 0 where
+  pub bytes : List ℕ
+  pub count : length bytes ≡ n
+  pub whole : Octets bytes
+  pub later : i + n ≤ r
+  pub inside : r ≤ length s
+  pub is : (m : Mode) → decode m i 0 (drop i s) ≡ prepend bytes [] (decode m r 0 (drop r s))

@@ -11,6 +11,7 @@ use crate::literal::Step;
 use crate::literal::measure_literal;
 use crate::literal::ordinary_end;
 use crate::literal::put;
+use crate::literal::put_simple;
 use crate::literal::step_at;
 use lexeme::Lexeme;
 use lexeme::Mode;
@@ -156,6 +157,12 @@ pub fn put_string(s: &[u8], mode: Mode, out: &mut [u8], place: usize)
         let size = e - i;
         base::copy(out, p, s, i, size);
         p += size;
+        let m = put_simple(s, e, out, p);
+        if m != 0 {
+            p += m;
+            i = e + 2 * m;
+            continue;
+        }
         let st = step_at(s, e, mode);
         match st {
             Step::Go {

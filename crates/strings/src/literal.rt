@@ -6,18 +6,21 @@ ghost use lib.Dec.{eqb};
 ghost use lib.ListN.{length, take, drop};
 ghost use lib.Seq.{sets};
 ghost use Rattle.base.specs.Choice.{pick};
+ghost use Rattle.base.specs.Bytes.{byte};
 ghost use Rattle.base.specs.Runs.{reach};
 ghost use Rattle.base.specs.Blocks.{allPass, Ahead};
 ghost use Rattle.utf8.specs.State.{fresh, pushAll};
 ghost use Rattle.strings.specs.Piece.{pieceOf};
-ghost use Rattle.strings.specs.Plain.{isOrdinary, isPlain, inOrdinary, inPlain};
+ghost use Rattle.strings.specs.Plain.{isOrdinary, isPlain, inOrdinary, Text, simpleAt, simpleBytes, Easy};
 ghost use Rattle.strings.specs.Decode.{stepOf, measured};
 ghost use Rattle.strings.specs.Literal.{literalOf};
+use crate::digit::simple;
 use crate::piece::Piece;
 use crate::piece::next_piece;
 use base::find::lacks;
 use lexeme::Mode;
 use utf8::ascii::all_ascii;
+use utf8::character::char_size;
 use utf8::state::State;
 
 // How a literal ends.
@@ -225,22 +228,6 @@ fn past_ordinary(s: &[u8], i: usize) -> usize
     e
 }
 
-// The same of plain bytes.
-fn past_plain(s: &[u8], i: usize) -> usize
-    requires { ⌜ i ≤ length (now s) ⌝ }
-    ensures { λ r. ⌜ Ahead inPlain (now (s .entry)) i r ⌝ }
-{
-    let mut e = i;
-    while BLOCK <= s.len() - e {
-        let end = e + BLOCK;
-        if !all_plain(&s[e..end]) {
-            return e;
-        }
-        e = end;
-    }
-    e
-}
-
 // The end of the run of bytes from i on that stand for themselves.
 pub fn ordinary_end(s: &[u8], i: usize) -> usize
     requires { ⌜ i ≤ length (now s) ⌝ }
@@ -257,14 +244,27 @@ pub fn ordinary_end(s: &[u8], i: usize) -> usize
     e
 }
 
-// The same of plain bytes, where no character has begun; else there is no run.
-fn plain_end(s: &[u8], i: usize, need: u8) -> usize
+// The end of the plain blocks from i on.
+fn past_plain(s: &[u8], i: usize) -> usize
     requires { ⌜ i ≤ length (now s) ⌝ }
-    ensures { λ r. ⌜ r ≡ pick (eqb need 0) (reach inPlain (now (s .entry)) i) i ⌝ }
+    ensures { λ r. ⌜ Text (now (s .entry)) i r ⌝ }
 {
-    if need != 0 {
-        return i;
+    let mut e = i;
+    while BLOCK <= s.len() - e {
+        let end = e + BLOCK;
+        if !all_plain(&s[e..end]) {
+            return e;
+        }
+        e = end;
     }
+    e
+}
+
+// The end of the plain bytes from i on.
+fn plain_end(s: &[u8], i: usize) -> usize
+    requires { ⌜ i ≤ length (now s) ⌝ }
+    ensures { λ r. ⌜ Text (now (s .entry)) i r ⌝ }
+{
     let mut e = past_plain(s, i);
     while e < s.len() {
         if is_plain(s[e]) {
@@ -274,6 +274,100 @@ fn plain_end(s: &[u8], i: usize, need: u8) -> usize
         }
     }
     e
+}
+
+// The end of the characters from i on that stand for themselves.
+fn text_end(s: &[u8], i: usize) -> usize
+    requires { ⌜ i ≤ length (now s) ⌝ }
+    ensures { λ r. ⌜ Text (now (s .entry)) i r ⌝ }
+{
+    let mut e = plain_end(s, i);
+    while e < s.len() {
+        if s[e] < 0x80 {
+            return e;
+        }
+        let n = char_size(&s[e..]);
+        if n == 0 {
+            return e;
+        }
+        e = plain_end(s, e + n);
+    }
+    e
+}
+
+// The byte that the escape of one letter at i stands for; 0 where there is none.
+fn simple_at(s: &[u8], i: usize) -> u8
+    requires { ⌜ i < length (now s) ⌝ }
+    ensures { λ r. ⌜ r ≡ simpleAt (byte (now (s .entry)) i) (byte (now (s .entry)) (i + 1)) ⌝ }
+{
+    if s[i] != b'\\' {
+        return 0;
+    }
+    simple(base::peek(s, i + 1))
+}
+
+// How many escapes of one letter follow each other from i on.
+fn simple_count(s: &[u8], i: usize) -> usize
+    requires { ⌜ i ≤ length (now s) ⌝ }
+    ensures { λ r. ⌜ r ≡ length (simpleBytes (drop i (now (s .entry)))) ⌝ }
+{
+    let mut e = i;
+    let mut n = 0;
+    while e < s.len() {
+        let b = simple_at(s, e);
+        if b == 0 {
+            return n;
+        }
+        n += 1;
+        e += 2;
+    }
+    n
+}
+
+// Stores the bytes that those escapes stand for from `place` on, and counts them.
+pub fn put_simple(s: &[u8], i: usize, out: &mut [u8], place: usize) -> usize
+    requires { ⌜ (i ≤ length (now s)) × (place + length (simpleBytes (drop i (now s))) ≤ length (now out)) ⌝ }
+    ensures { λ r. ⌜ (r ≡ length (simpleBytes (drop i (now (s .entry))))) × (now (out .exit) ≡ sets (now (out .entry)) place (simpleBytes (drop i (now (s .entry))))) ⌝ }
+{
+    let mut e = i;
+    let mut n = 0;
+    while e < s.len() {
+        let b = simple_at(s, e);
+        if b == 0 {
+            return n;
+        }
+        out[place + n] = b;
+        n += 1;
+        e += 2;
+    }
+    n
+}
+
+// A part of a literal that ends at `end` and stands for `count` bytes.
+struct Part {
+    end: usize,
+    count: usize,
+}
+
+// The part from i on that has only characters that stand for themselves and escapes of one letter; an empty one where a character has begun.
+fn easy_part(s: &[u8], i: usize, need: u8) -> Part
+    requires { ⌜ i ≤ length (now s) ⌝ }
+    ensures { λ r. ⌜ Easy (now (s .entry)) i (r .end) (r .count) × ((need ≡ 0 → ⊥) → r .count ≡ 0) ⌝ }
+{
+    let mut end = i;
+    let mut count = 0;
+    if need != 0 {
+        return Part { end, count };
+    }
+    loop {
+        let e = text_end(s, end);
+        let n = simple_count(s, e);
+        count += e - end + n;
+        end = e + 2 * n;
+        if n == 0 {
+            return Part { end, count };
+        }
+    }
 }
 
 // Measures the literal whose opening quote is the first byte.
@@ -287,8 +381,9 @@ pub fn measure_literal(s: &[u8], mode: Mode) -> Measure
     let mut state = State::start();
     loop {
         let need = state.need;
-        let e = plain_end(s, i, need);
-        count += e - i;
+        let part = easy_part(s, i, need);
+        let e = part.end;
+        count += part.count;
         let st = step_at(s, e, mode);
         match st {
             Step::Go {

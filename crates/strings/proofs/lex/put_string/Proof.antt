@@ -1,7 +1,9 @@
--- `put_string` stores what is left after what is stored already: a run of bytes that stand for themselves at once, and then a step. Assumes nothing.
-use Rattle.strings.proofs.Turns.{Writing, writing-first, ordinary-ge, ordinary-in, copy-room, copy-source, copy-fits, put-four, put-room, put-fits, text-fits, text-less, writing-go, writing-stop}
+-- `put_string` stores what is left after what is stored already: a run of bytes that stand for themselves, then escapes of one letter, and where
+-- there are none a step. Assumes nothing.
+use Rattle.strings.proofs.Turns.{Writing, writing-first, run-ge, run-in, copy-room, copy-source, copy-fits, copied, simple-room, simple-in, unescaped, simple-fits, no-escape, writing-stop, text-in, text-less, put-four, put-room, writing-go}
 use lib.ListN.{length}
 use Prim.Native.Nat.{_-_}
+use native.Mathlib.Omega.{arith}
 use borrow.Author.Needs.{needs}
 use Rattle.strings.proofs.lex.put_string.Statement.{statement}
 use Rattle.strings.proofs.lex.put_string.Tie as tie
@@ -19,7 +21,7 @@ ordinary-end-requires : tie.Need-ordinary-end-requires Inv-loop μ-loop
 ordinary-end-requires c κs = search needs
 
 sub-size : tie.Need-sub-size Inv-loop μ-loop
-sub-size c = search ordinary-ge
+sub-size c = search run-ge
 
 copy-requires : tie.Need-copy-requires Inv-loop μ-loop
 copy-requires c κs = search (copy-room, copy-source)
@@ -27,48 +29,121 @@ copy-requires c κs = search (copy-room, copy-source)
 add-p : tie.Need-add-p Inv-loop μ-loop
 add-p c = search copy-fits
 
+put-simple-requires : tie.Need-put-simple-requires Inv-loop μ-loop
+put-simple-requires c κs =
+    let g = c .before .before .before in
+    let u = g .before .before .before .loop .inv in
+    let e = g .before .before .ordinary-end .ensures in
+    (run-in _ _ _ _ _ _ _ u _ e, simple-room _ _ _ _ _ _ _ (copied _ _ _ _ _ _ _ u _ e _ (g .copy .ensures)))
+
+add-p-2 : tie.Need-add-p-2 Inv-loop μ-loop
+add-p-2 c =
+    let b = c .before .before .before in
+    let g = b .before .before .before .before in
+    let w = copied _ _ _ _ _ _ _ (g .before .before .before .loop .inv) _ (g .before .before .ordinary-end .ensures) _ (g .copy .ensures) in
+    search (simple-fits _ _ _ _ _ _ _ w _ (b .put-simple .ensures .0) _ (b .put-simple .ensures .1))
+
+mul-i : tie.Need-mul-i Inv-loop μ-loop
+mul-i c =
+    let b = c .before .before .before in
+    let g = b .before .before .before .before in
+    let w = copied _ _ _ _ _ _ _ (g .before .before .before .loop .inv) _ (g .before .before .ordinary-end .ensures) _ (g .copy .ensures) in
+    omega (arith, simple-in _ _ _ _ _ _ _ w _ (b .put-simple .ensures .0) _ (b .put-simple .ensures .1))
+
+add-i : tie.Need-add-i Inv-loop μ-loop
+add-i c =
+    let b = c .before .before .before in
+    let g = b .before .before .before .before in
+    let w = copied _ _ _ _ _ _ _ (g .before .before .before .loop .inv) _ (g .before .before .ordinary-end .ensures) _ (g .copy .ensures) in
+    omega (arith, simple-in _ _ _ _ _ _ _ w _ (b .put-simple .ensures .0) _ (b .put-simple .ensures .1))
+
+loop-less : tie.Need-loop-less Inv-loop μ-loop
+loop-less c =
+    let b = c .before .before .before in
+    let g = b .before .before .before .before in
+    let w = copied _ _ _ _ _ _ _ (g .before .before .before .loop .inv) _ (g .before .before .ordinary-end .ensures) _ (g .copy .ensures) in
+    omega (arith, c .if1 .taken, simple-in _ _ _ _ _ _ _ w _ (b .put-simple .ensures .0) _ (b .put-simple .ensures .1), run-ge _ _ _ _ _ _ _ (g .before .before .before .loop .inv) _ (g .before .before .ordinary-end .ensures))
+
+loop-again : tie.Need-loop-again Inv-loop μ-loop
+loop-again c =
+    let b = c .before .before .before in
+    let g = b .before .before .before .before in
+    let w = copied _ _ _ _ _ _ _ (g .before .before .before .loop .inv) _ (g .before .before .ordinary-end .ensures) _ (g .copy .ensures) in
+    unescaped _ _ _ _ _ _ _ w _ (b .put-simple .ensures .0) _ (b .put-simple .ensures .1)
+
 step-at-requires : tie.Need-step-at-requires Inv-loop μ-loop
-step-at-requires c κs = search ordinary-in
+step-at-requires c κs = search run-in
 
 enum-known-st : tie.Need-enum-known-st Inv-loop μ-loop
 enum-known-st c = search needs
 
 put-requires : tie.Need-put-requires Inv-loop μ-loop
-put-requires c κs = search (put-four, put-room)
+put-requires c κs =
+    let q = c .before .before .before .before in
+    let b = c .before .before .before .before .before .before .before .before in
+    let g = b .before .before .before .before in
+    let w = copied _ _ _ _ _ _ _ (g .before .before .before .loop .inv) _ (g .before .before .ordinary-end .ensures) _ (g .copy .ensures) in
+    let v = no-escape _ _ _ _ _ _ _ w _ (b .put-simple .ensures .0) _ (b .put-simple .ensures .1) (q .before .if1 .left) in
+    search (put-four _ _ _ _ _ _ _ v _ (q .step-at .ensures), put-room _ _ _ _ _ _ _ v _ (q .step-at .ensures))
 
-add-p-2 : tie.Need-add-p-2 Inv-loop μ-loop
-add-p-2 c =
-    let k = c .before .before .before .before .before .before .before in
-    let b = k .before .before .before in
-    let g = b .before .before .before .before .before .before .good in
-    search (put-fits _ _ _ _ _ _ _ (b .before .before .before .loop .inv) _ (b .before .before .ordinary-end .ensures) _ (b .copy .ensures) _ (k .step-at .ensures))
+add-p-3 : tie.Need-add-p-3 Inv-loop μ-loop
+add-p-3 c =
+    let q = c .before .before .before .before .before .before .before in
+    let b = c .before .before .before .before .before .before .before .before .before .before .before in
+    let g = b .before .before .before .before in
+    let w = copied _ _ _ _ _ _ _ (g .before .before .before .loop .inv) _ (g .before .before .ordinary-end .ensures) _ (g .copy .ensures) in
+    let start = g .before .before .before .before .before .before .good in
+    let v = no-escape _ _ _ _ _ _ _ w _ (b .put-simple .ensures .0) _ (b .put-simple .ensures .1) (q .before .if1 .left) in
+    record { fits = omega (arith, put-room _ _ _ _ _ _ _ v _ (q .step-at .ensures) _ _ _ _ _ _ _ (c .before .before .before .before .before .st .given .1), v .same, start) }
 
-add-i : tie.Need-add-i Inv-loop μ-loop
-add-i c =
-    let k = c .before .before .before .before .before .before .before in
-    let b = k .before .before .before in
-    search (text-fits _ _ _ _ _ _ _ (b .before .before .before .loop .inv) _ (b .before .before .ordinary-end .ensures) _ (b .copy .ensures) _ (k .step-at .ensures))
+add-i-2 : tie.Need-add-i-2 Inv-loop μ-loop
+add-i-2 c =
+    let q = c .before .before .before .before .before .before .before in
+    let b = c .before .before .before .before .before .before .before .before .before .before .before in
+    let g = b .before .before .before .before in
+    let w = copied _ _ _ _ _ _ _ (g .before .before .before .loop .inv) _ (g .before .before .ordinary-end .ensures) _ (g .copy .ensures) in
+    let start = g .before .before .before .before .before .before .good in
+    let v = no-escape _ _ _ _ _ _ _ w _ (b .put-simple .ensures .0) _ (b .put-simple .ensures .1) (q .before .if1 .left) in
+    record { fits = omega (arith, text-in _ _ _ _ _ _ _ v _ (q .step-at .ensures) _ _ _ _ _ _ _ (c .before .before .before .before .before .st .given .1), start) }
 
-loop-less : tie.Need-loop-less Inv-loop μ-loop
-loop-less c =
-    let k = c .before .before .before .before .before .before .before in
-    let b = k .before .before .before in
-    search (text-less _ _ _ _ _ _ _ (b .before .before .before .loop .inv) _ (b .before .before .ordinary-end .ensures) _ (b .copy .ensures) _ (k .step-at .ensures))
+loop-less-2 : tie.Need-loop-less-2 Inv-loop μ-loop
+loop-less-2 c =
+    let q = c .before .before .before .before .before .before .before in
+    let b = c .before .before .before .before .before .before .before .before .before .before .before in
+    let g = b .before .before .before .before in
+    let w = copied _ _ _ _ _ _ _ (g .before .before .before .loop .inv) _ (g .before .before .ordinary-end .ensures) _ (g .copy .ensures) in
+    let v = no-escape _ _ _ _ _ _ _ w _ (b .put-simple .ensures .0) _ (b .put-simple .ensures .1) (q .before .if1 .left) in
+    search (text-less _ _ _ _ _ _ _ v _ (q .step-at .ensures), run-ge _ _ _ _ _ _ _ (g .before .before .before .loop .inv) _ (g .before .before .ordinary-end .ensures))
 
-loop-again : tie.Need-loop-again Inv-loop μ-loop
-loop-again c =
-    let k = c .before .before .before .before .before .before .before in
-    let b = k .before .before .before in
-    search (writing-go _ _ _ _ _ _ _ (b .before .before .before .loop .inv) _ (b .before .before .ordinary-end .ensures) _ (b .copy .ensures) _ (k .step-at .ensures))
+loop-again-2 : tie.Need-loop-again-2 Inv-loop μ-loop
+loop-again-2 c =
+    let q = c .before .before .before .before .before .before .before in
+    let b = c .before .before .before .before .before .before .before .before .before .before .before in
+    let g = b .before .before .before .before in
+    let w = copied _ _ _ _ _ _ _ (g .before .before .before .loop .inv) _ (g .before .before .ordinary-end .ensures) _ (g .copy .ensures) in
+    let v = no-escape _ _ _ _ _ _ _ w _ (b .put-simple .ensures .0) _ (b .put-simple .ensures .1) (q .before .if1 .left) in
+    search (writing-go _ _ _ _ _ _ _ v _ (q .step-at .ensures))
 
 enum-told : tie.Need-enum-told Inv-loop μ-loop
 enum-told c = search needs
 
 same-length : tie.Need-same-length Inv-loop μ-loop
-same-length c = search needs
+same-length c =
+    let q = c .before .before in
+    let b = c .before .before .before .before .before .before in
+    let g = b .before .before .before .before in
+    let w = copied _ _ _ _ _ _ _ (g .before .before .before .loop .inv) _ (g .before .before .ordinary-end .ensures) _ (g .copy .ensures) in
+    let v = no-escape _ _ _ _ _ _ _ w _ (b .put-simple .ensures .0) _ (b .put-simple .ensures .1) (q .before .if1 .left) in
+    v .same
 
 returns : tie.Need-returns Inv-loop μ-loop
-returns c = search writing-stop
+returns c =
+    let q = c .before .before in
+    let b = c .before .before .before .before .before .before in
+    let g = b .before .before .before .before in
+    let w = copied _ _ _ _ _ _ _ (g .before .before .before .loop .inv) _ (g .before .before .ordinary-end .ensures) _ (g .copy .ensures) in
+    let v = no-escape _ _ _ _ _ _ _ w _ (b .put-simple .ensures .0) _ (b .put-simple .ensures .1) (q .before .if1 .left) in
+    search (writing-stop _ _ _ _ _ _ _ v _ (q .step-at .ensures))
 
 pub put-string-spec : {M : Type 1} → statement M
 put-string-spec =
@@ -81,13 +156,19 @@ put-string-spec =
     sub-size
     copy-requires
     add-p
-    step-at-requires
-    enum-known-st
-    put-requires
+    put-simple-requires
     add-p-2
+    mul-i
     add-i
     loop-less
     loop-again
+    step-at-requires
+    enum-known-st
+    put-requires
+    add-p-3
+    add-i-2
+    loop-less-2
+    loop-again-2
     enum-told
     same-length
     returns)

@@ -1,5 +1,5 @@
--- `measure_literal` measures what is left with what is counted already: a run of plain bytes at once, and then a step. Assumes nothing.
-use Rattle.strings.proofs.Turns.{Measuring, measuring-first, run-ge, run-fits, run-in, feed-four, count-fits, reports-fits, offset-fits, offset-less, measuring-go, measuring-stop}
+-- `measure_literal` measures what is left with what is counted already: a part that is read at once, and then a step. Assumes nothing.
+use Rattle.strings.proofs.Turns.{Measuring, measuring-first, part-fits, part-in, feed-four, count-fits, reports-fits, offset-fits, offset-less, measuring-go, measuring-stop}
 use lib.ListN.{length}
 use Prim.Native.Nat.{_-_}
 use borrow.Author.Needs.{needs}
@@ -18,47 +18,50 @@ start-requires c κs = search needs
 loop-holds : tie.Need-loop-holds Inv-loop μ-loop
 loop-holds c = search measuring-first
 
-plain-end-requires : tie.Need-plain-end-requires Inv-loop μ-loop
-plain-end-requires c κs = search needs
-
-sub-count : tie.Need-sub-count Inv-loop μ-loop
-sub-count c = search run-ge
+easy-part-requires : tie.Need-easy-part-requires Inv-loop μ-loop
+easy-part-requires c κs = search needs
 
 add-count : tie.Need-add-count Inv-loop μ-loop
-add-count c = search run-fits
+add-count c = search (part-fits _ _ _ _ _ _ (c .before .before .loop .inv) _ _ (c .before .easy-part .ensures))
 
 step-at-requires : tie.Need-step-at-requires Inv-loop μ-loop
-step-at-requires c κs = search run-in
+step-at-requires c κs = search part-in
 
 enum-known-st : tie.Need-enum-known-st Inv-loop μ-loop
 enum-known-st c = search needs
 
 feed-requires : tie.Need-feed-requires Inv-loop μ-loop
-feed-requires c κs = search feed-four
+feed-requires c κs =
+    let k = c .before .before .before in
+    search (feed-four _ _ _ _ _ _ (k .before .before .before .loop .inv) _ _ (k .before .before .easy-part .ensures) _ (k .step-at .ensures))
 
 add-count-2 : tie.Need-add-count-2 Inv-loop μ-loop
-add-count-2 c = search count-fits
+add-count-2 c =
+    let k = c .before .before .before .before in
+    search (count-fits _ _ _ _ _ _ (k .before .before .before .loop .inv) _ _ (k .before .before .easy-part .ensures) _ (k .step-at .ensures))
 
 report-count-requires : tie.Need-report-count-requires Inv-loop μ-loop
 report-count-requires c κs = search needs
 
 add-reports : tie.Need-add-reports Inv-loop μ-loop
-add-reports c = search reports-fits
+add-reports c =
+    let k = c .before .before .before .before .before in
+    search (reports-fits _ _ _ _ _ _ (k .before .before .before .loop .inv) _ _ (k .before .before .easy-part .ensures) _ (k .step-at .ensures))
 
 add-i : tie.Need-add-i Inv-loop μ-loop
 add-i c =
     let k = c .before .before .before .before .before in
-    search (offset-fits _ _ _ _ _ _ (k .before .before .loop .inv) _ (k .before .plain-end .ensures) _ (k .step-at .ensures))
+    search (offset-fits _ _ _ _ _ _ (k .before .before .before .loop .inv) _ _ (k .before .before .easy-part .ensures) _ (k .step-at .ensures))
 
 loop-less : tie.Need-loop-less Inv-loop μ-loop
 loop-less c =
     let k = c .before .before .before .before .before in
-    search (offset-less _ _ _ _ _ _ (k .before .before .loop .inv) _ (k .before .plain-end .ensures) _ (k .step-at .ensures))
+    search (offset-less _ _ _ _ _ _ (k .before .before .before .loop .inv) _ _ (k .before .before .easy-part .ensures) _ (k .step-at .ensures))
 
 loop-again : tie.Need-loop-again Inv-loop μ-loop
 loop-again c =
     let k = c .before .before .before .before .before in
-    search (measuring-go _ _ _ _ _ _ (k .before .before .loop .inv) _ (k .before .plain-end .ensures) _ (k .step-at .ensures))
+    search (measuring-go _ _ _ _ _ _ (k .before .before .before .loop .inv) _ _ (k .before .before .easy-part .ensures) _ (k .step-at .ensures))
 
 enum-known-st-2 : tie.Need-enum-known-st-2 Inv-loop μ-loop
 enum-known-st-2 c = search needs
@@ -74,8 +77,7 @@ measure-literal-spec =
     μ-loop
     start-requires
     loop-holds
-    plain-end-requires
-    sub-count
+    easy-part-requires
     add-count
     step-at-requires
     enum-known-st

@@ -1,22 +1,21 @@
--- `past_plain` meets its contract: a block of plain bytes stays in the run. Assumes nothing.
-use Prim.Native.Nat.{_-_}
+-- `past_plain` meets its contract: a block of plain bytes makes the text longer. Assumes nothing.
+use Rattle.strings.proofs.Parts.{text-none, text-block}
+use Rattle.strings.specs.Plain.{Text}
 use lib.ListN.{length}
-use Rattle.base.specs.Blocks.{Ahead}
-use Rattle.base.proofs.Blocks.{ahead-first, ahead-block}
-use Rattle.strings.specs.Plain.{isPlain, inPlain}
+use Prim.Native.Nat.{_-_}
 use borrow.Author.Tests.{not-false}
 use borrow.Author.Needs.{needs}
 use Rattle.strings.proofs.literal.past_plain.Statement.{statement}
 use Rattle.strings.proofs.literal.past_plain.Tie as tie
 
 abbrev Inv-loop : tie.InvT-loop
-Inv-loop s i e₀ e = Ahead inPlain s i e
+Inv-loop s i e₀ e = Text s i e
 
 abbrev μ-loop : tie.MeasureT-loop
 μ-loop s i e₀ e = length s - e
 
 loop-holds : tie.Need-loop-holds Inv-loop μ-loop
-loop-holds c = search ahead-first
+loop-holds c = search text-none
 
 sub-loop : tie.Need-sub-loop Inv-loop μ-loop
 sub-loop c = search needs
@@ -45,7 +44,7 @@ loop-less c = search needs
 loop-again : tie.Need-loop-again Inv-loop μ-loop
 loop-again c =
     let b = c .before .before .before in
-    ahead-block isPlain inPlain (λ a n e. e) _ _ _ _ (b .before .loop .inv) (b .loop-test .taken) _ (c .before .all-plain .ensures) (not-false _ (c .if1 .left))
+    text-block _ _ _ (b .before .loop .inv) _ (b .loop-test .taken) _ (c .before .all-plain .ensures) (not-false _ (c .if1 .left))
 
 returns-2 : tie.Need-returns-2 Inv-loop μ-loop
 returns-2 c = search needs

@@ -1,0 +1,70 @@
+-- `easy_part` meets its contract: text, and then escapes of one letter, make the part longer. Assumes nothing.
+use Rattle.strings.proofs.Parts.{easy-none, easy-more, sum-fits, count-fits, double-fits, end-fits, end-later}
+use Rattle.strings.specs.Plain.{Easy}
+use lib.ListN.{length}
+use Prim.Native.Nat.{_-_}
+use mathlib.Core.Path.{refl}
+use borrow.Author.Needs.{needs}
+use Rattle.strings.proofs.literal.easy_part.Statement.{statement}
+use Rattle.strings.proofs.literal.easy_part.Tie as tie
+
+abbrev Inv-loop : tie.InvT-loop
+Inv-loop s i need end₀ count₀ end count = Easy s i end count
+
+abbrev μ-loop : tie.MeasureT-loop
+μ-loop s i need end₀ count₀ end count = length s - end
+
+returns : tie.Need-returns Inv-loop μ-loop
+returns c = (search easy-none, λ _. refl)
+
+loop-holds : tie.Need-loop-holds Inv-loop μ-loop
+loop-holds c = search easy-none
+
+text-end-requires : tie.Need-text-end-requires Inv-loop μ-loop
+text-end-requires c κs = search needs
+
+simple-count-requires : tie.Need-simple-count-requires Inv-loop μ-loop
+simple-count-requires c κs = search needs
+
+sub-count : tie.Need-sub-count Inv-loop μ-loop
+sub-count c = search needs
+
+add-count : tie.Need-add-count Inv-loop μ-loop
+add-count c = search sum-fits
+
+add-count-2 : tie.Need-add-count-2 Inv-loop μ-loop
+add-count-2 c = search count-fits
+
+mul-end : tie.Need-mul-end Inv-loop μ-loop
+mul-end c = search double-fits
+
+add-end : tie.Need-add-end Inv-loop μ-loop
+add-end c = search end-fits
+
+returns-2 : tie.Need-returns-2 Inv-loop μ-loop
+returns-2 c = (search easy-more, λ z. absurd (z (c .before .before .before .before .if1 .left)))
+
+loop-less : tie.Need-loop-less Inv-loop μ-loop
+loop-less c = search end-later
+
+loop-again : tie.Need-loop-again Inv-loop μ-loop
+loop-again c = search easy-more
+
+pub easy-part-spec : {M : Type 1} → statement M
+easy-part-spec =
+    tie.close
+    (tie.spec
+    Inv-loop
+    μ-loop
+    returns
+    loop-holds
+    text-end-requires
+    simple-count-requires
+    sub-count
+    add-count
+    add-count-2
+    mul-end
+    add-end
+    returns-2
+    loop-less
+    loop-again)

@@ -1,31 +1,30 @@
 -- Parts of a literal that are read at once. Text that stands for itself grows by a block, a byte or a character; escapes of one letter are
 -- counted and stored one after the other; and parts that follow each other are one part. Assumes nothing.
 use mathlib.Core.Path.{_≡_, refl, sym, ap, _∙_}
-use mathlib.Core.Bool.{Bool, true, false, not, _&&_, and-assoc}
+use mathlib.Core.Bool.{Bool, true, false, _&&_, and-assoc}
 use mathlib.Core.List.{List, [], _∷_, _++_, append-assoc, append-nil}
 use Prim.Native.Nat.{ℕ, zero, suc, _+_, _-_, _*_, _^_, _≤_, _<_}
 use native.Mathlib.Nat.{add-zero}
 use native.Mathlib.Numerals.{add-one}
 use native.Mathlib.Omega.{arith}
-use borrow.Author.Tests.{eq-eqb, ne-eqb, ltb-true, ltb-false, eqb-true, eqb-false}
+use borrow.Author.Tests.{eq-eqb, ne-eqb, ltb-true, ltb-false}
 use lib.Dec.{eqb, ltb}
 use lib.ListN.{length, take, drop, set, length-drop, length-append, length-set, drop-of-length-le, List·getD-eq-default}
 use lib.Seq.{sets, drop-cons, drop-drop, take-add, length-take-le, getD-take}
 use mir.Syntax.{w64}
 use mir.Val.{Fits}
 use Rattle.base.specs.Choice.{pick}
-use Rattle.base.specs.Bytes.{byte, within}
+use Rattle.base.specs.Bytes.{byte}
 use Rattle.base.specs.Blocks.{allPass}
 use Rattle.base.proofs.Reaches.{rest-is}
-use Rattle.base.proofs.Tests.{and-left, and-right, in-text, within-low}
+use Rattle.base.proofs.Tests.{and-left, and-right, within-low}
 use Rattle.utf8.specs.Grammar.{Octets, none, more, charSize}
 use Rattle.utf8.specs.Check.{isTail}
 use Rattle.utf8.proofs.Chars.{CharShape, char-shape, char-of-size, size-le}
 use Rattle.utf8.proofs.Concatenations.{octets-append, ascii-octets}
-use Rattle.lexeme.specs.declared.Mode.{Mode}
 use Rattle.strings.specs.Piece.{look, letters, simpleOf}
-use Rattle.strings.specs.Plain.{isOrdinary, isPlain, Text, simpleAt, simpleBytes, Easy}
-use Rattle.strings.specs.Decode.{Decoded, prepend}
+use Rattle.strings.specs.Plain.{isOrdinary, isPlain, Text, simpleAt, simpleBytes, Spells}
+use Rattle.strings.specs.Decode.{prepend}
 use Rattle.strings.proofs.Decodes.{from, from-ordinary, from-simple, all-pass}
 
 -- ---- text
@@ -280,11 +279,11 @@ module _ (s : List ℕ) (i : ℕ) (out₀ : List ℕ) (place : ℕ) (out : List 
 
 -- ---- parts
 
-pub easy-none : (s : List ℕ) (i : ℕ) → i ≤ length s → Easy s i i 0
-easy-none s i h = record { bytes = []; count = refl; whole = none; later = omega arith; inside = h; is = λ m. refl }
+pub spells-none : (s : List ℕ) (i : ℕ) → i ≤ length s → Spells s i i 0
+spells-none s i h = record { bytes = []; count = refl; whole = none; later = omega arith; inside = h; is = λ m. refl }
 
-easy-then : (s : List ℕ) (i e r n k : ℕ) → Easy s i e n → Easy s e r k → Easy s i r (n + k)
-easy-then s i e r n k t u =
+spells-then : (s : List ℕ) (i e r n k : ℕ) → Spells s i e n → Spells s e r k → Spells s i r (n + k)
+spells-then s i e r n k t u =
     record {
       bytes = t .bytes ++ u .bytes;
       count = length-append (t .bytes) (u .bytes) ∙ rw (t .count, u .count) refl;
@@ -294,8 +293,8 @@ easy-then s i e r n k t u =
       is = λ m. t .is m ∙ ap (prepend (t .bytes) []) (u .is m) ∙ rw (append-assoc (t .bytes) (u .bytes) (from m s r .bytes));
     }
 
-easy-text : (s : List ℕ) (i r : ℕ) → Text s i r → Easy s i r (r - i)
-easy-text s i r t =
+spells-text : (s : List ℕ) (i r : ℕ) → Text s i r → Spells s i r (r - i)
+spells-text s i r t =
     record {
       bytes = take (r - i) (drop i s);
       count = length-take-le (r - i) (drop i s) (omega (arith, length-drop i s, t .inside));
@@ -305,8 +304,8 @@ easy-text s i r t =
       is = λ m. from-ordinary m s i r (t .later) (t .inside) (t .ordinary);
     }
 
-easy-simple : (s : List ℕ) (i n : ℕ) → i ≤ length s → n ≡ length (simpleBytes (drop i s)) → Easy s i (i + 2 * n) n
-easy-simple s i n h e =
+spells-simple : (s : List ℕ) (i n : ℕ) → i ≤ length s → n ≡ length (simpleBytes (drop i s)) → Spells s i (i + 2 * n) n
+spells-simple s i n h e =
     record {
       bytes = simpleBytes (drop i s);
       count = sym e;
@@ -316,24 +315,24 @@ easy-simple s i n h e =
       is = λ m. from-simple m s i n e;
     }
 
--- `easy_part` at `end`
-module _ (s : List ℕ) (i end count : ℕ) (u : Easy s i end count) (e : ℕ) (t : Text s end e) (n : ℕ) (is : n ≡ length (simpleBytes (drop e s))) where
-  pub easy-more : Easy s i (e + 2 * n) (count + (e - end + n))
-  easy-more =
-      easy-then s i end (e + 2 * n) count (e - end + n) u
-      (easy-then s end e (e + 2 * n) (e - end) n (easy-text s end e t) (easy-simple s e n (t .inside) is))
+-- `part_at` at `end`
+module _ (s : List ℕ) (i end count : ℕ) (u : Spells s i end count) (e : ℕ) (t : Text s end e) (n : ℕ) (is : n ≡ length (simpleBytes (drop e s))) where
+  pub spells-more : Spells s i (e + 2 * n) (count + (e - end + n))
+  spells-more =
+      spells-then s i end (e + 2 * n) count (e - end + n) u
+      (spells-then s end e (e + 2 * n) (e - end) n (spells-text s end e t) (spells-simple s e n (t .inside) is))
 
   pub sum-fits : length s < 2 ^ 64 → Fits w64 (e - end + n)
-  sum-fits l = let p = easy-more in omega arith
+  sum-fits l = let p = spells-more in omega arith
 
-  pub count-fits : length s < 2 ^ 64 → Fits w64 (count + (e - end + n))
-  count-fits l = let p = easy-more in omega arith
+  pub total-fits : length s < 2 ^ 64 → Fits w64 (count + (e - end + n))
+  total-fits l = let p = spells-more in omega arith
 
   pub double-fits : length s < 2 ^ 64 → Fits w64 (2 * n)
-  double-fits l = let p = easy-more in omega arith
+  double-fits l = let p = spells-more in omega arith
 
   pub end-fits : length s < 2 ^ 64 → Fits w64 (e + 2 * n)
-  end-fits l = let p = easy-more in omega arith
+  end-fits l = let p = spells-more in omega arith
 
   pub end-later : (n ≡ 0 → ⊥) → length s - (e + 2 * n) < length s - end
-  end-later z = let p = easy-more in omega (arith, t .later)
+  end-later z = let p = spells-more in omega (arith, t .later)

@@ -23,7 +23,7 @@ use Rattle.utf8.proofs.States.{push-append, octets-fed}
 use Rattle.lexeme.specs.Lexeme.{Note}
 use Rattle.lexeme.specs.declared.Mode.{Mode}
 use Rattle.strings.specs.Piece.{pieceOf}
-use Rattle.strings.specs.Plain.{inOrdinary, simpleBytes, Easy}
+use Rattle.strings.specs.Plain.{inOrdinary, simpleBytes, Spells}
 use Rattle.strings.specs.Decode.{Decoded, stepOf, letterDetail, stepNotes, prepend, measured}
 use Rattle.strings.specs.Literal.{literalOf}
 use Rattle.strings.specs.declared.literal.End.{End}
@@ -78,11 +78,11 @@ pub measuring-first : (m : Mode) (s : List ℕ) (t : State) → 0 < length s →
 measuring-first m s t h e = record { inside = h; room = lit≤ tt; room′ = lit≤ tt; settled = λ _. e; is = rw e refl }
 
 module _ (m : Mode) (s : List ℕ) (i count reports : ℕ) (state : State) (u : Measuring m s i count reports state)
-    (e size : ℕ) (part : Easy s i e size × ((state .need ≡ 0 → ⊥) → size ≡ 0)) where
+    (e size : ℕ) (part : Spells s i e size × ((state .need ≡ 0 → ⊥) → size ≡ 0)) where
   -- after the part
   ran : Measuring m s e (count + size) reports state
   ran =
-      let p : Easy s i e size = part .0 in
+      let p : Spells s i e size = part .0 in
       record {
         inside = p .inside;
         room = omega (arith, u .room, p .later);

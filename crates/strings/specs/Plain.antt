@@ -42,8 +42,8 @@ simpleBytes [] = []
 simpleBytes (x ∷ []) = []
 simpleBytes (x ∷ y ∷ l) = pick (eqb (simpleAt x y) 0) [] (simpleAt x y ∷ simpleBytes l)
 
--- in each mode, what stands from i to r gives n bytes, which are whole characters, and no report
-pub record Easy (s : List ℕ) (i r n : ℕ) : Type 0 where
+-- in each mode, the text from i to r stands for n bytes, which are whole characters, and makes no report
+pub record Spells (s : List ℕ) (i r n : ℕ) : Type 0 where
   pub bytes : List ℕ
   pub count : length bytes ≡ n
   pub whole : Octets bytes

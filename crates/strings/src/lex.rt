@@ -157,10 +157,10 @@ pub fn put_string(s: &[u8], mode: Mode, out: &mut [u8], place: usize)
         let size = e - i;
         base::copy(out, p, s, i, size);
         p += size;
-        let m = put_simple(s, e, out, p);
-        if m != 0 {
-            p += m;
-            i = e + 2 * m;
+        let escapes = put_simple(s, e, out, p);
+        if escapes != 0 {
+            p += escapes;
+            i = e + 2 * escapes;
             continue;
         }
         let st = step_at(s, e, mode);

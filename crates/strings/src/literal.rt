@@ -1,4 +1,5 @@
-// A whole string literal: one step at a time, and runs of bytes that stand for themselves at once.
+// A whole string literal: one step at a time, and at once the parts that have only characters that stand for themselves and escapes of one
+// letter.
 ghost use mathlib.Core.Path.{_≡_};
 ghost use mathlib.Core.List.{[], _∷_};
 ghost use Prim.Native.Nat.{_+_, _≤_, _<_};
@@ -11,7 +12,7 @@ ghost use Rattle.base.specs.Runs.{reach};
 ghost use Rattle.base.specs.Blocks.{allPass, Ahead};
 ghost use Rattle.utf8.specs.State.{fresh, pushAll};
 ghost use Rattle.strings.specs.Piece.{pieceOf};
-ghost use Rattle.strings.specs.Plain.{isOrdinary, isPlain, inOrdinary, Text, simpleAt, simpleBytes, Easy};
+ghost use Rattle.strings.specs.Plain.{isOrdinary, isPlain, inOrdinary, Text, simpleAt, simpleBytes, Spells};
 ghost use Rattle.strings.specs.Decode.{stepOf, measured};
 ghost use Rattle.strings.specs.Literal.{literalOf};
 use crate::digit::simple;
@@ -58,6 +59,12 @@ pub struct Measure {
     pub stop: usize,
     pub end: End,
     pub state: State,
+}
+
+// A part of a literal: it ends at `end` and stands for `count` bytes.
+struct Part {
+    end: usize,
+    count: usize,
 }
 
 // The literal ends so.
@@ -179,7 +186,7 @@ fn is_ordinary(b: u8) -> bool
     (b != b'"') & (b != b'\n') & (b != b'\\')
 }
 
-// A byte that stands for itself and is a character of its own.
+// A plain byte: it stands for itself and is a character of its own.
 fn is_plain(b: u8) -> bool
     ensures { λ r. ⌜ r ≡ isPlain b ⌝ }
 {
@@ -202,7 +209,7 @@ fn all_ordinary(s: &[u8]) -> bool
     lacks(s, b'\n')
 }
 
-// Whether all bytes stand for themselves and are characters of their own.
+// Whether all bytes are plain.
 fn all_plain(s: &[u8]) -> bool
     ensures { λ r. ⌜ r ≡ allPass isPlain (now (s .entry)) ⌝ }
 {
@@ -343,16 +350,11 @@ pub fn put_simple(s: &[u8], i: usize, out: &mut [u8], place: usize) -> usize
     n
 }
 
-// A part of a literal that ends at `end` and stands for `count` bytes.
-struct Part {
-    end: usize,
-    count: usize,
-}
-
-// The part from i on that has only characters that stand for themselves and escapes of one letter; an empty one where a character has begun.
-fn easy_part(s: &[u8], i: usize, need: u8) -> Part
+// The part from i on of characters that stand for themselves and escapes of one letter. These leave no character begun; where one has, the
+// part is empty.
+fn part_at(s: &[u8], i: usize, need: u8) -> Part
     requires { ⌜ i ≤ length (now s) ⌝ }
-    ensures { λ r. ⌜ Easy (now (s .entry)) i (r .end) (r .count) × ((need ≡ 0 → ⊥) → r .count ≡ 0) ⌝ }
+    ensures { λ r. ⌜ Spells (now (s .entry)) i (r .end) (r .count) × ((need ≡ 0 → ⊥) → r .count ≡ 0) ⌝ }
 {
     let mut end = i;
     let mut count = 0;
@@ -381,7 +383,7 @@ pub fn measure_literal(s: &[u8], mode: Mode) -> Measure
     let mut state = State::start();
     loop {
         let need = state.need;
-        let part = easy_part(s, i, need);
+        let part = part_at(s, i, need);
         let e = part.end;
         count += part.count;
         let st = step_at(s, e, mode);

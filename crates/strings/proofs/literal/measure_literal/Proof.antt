@@ -18,11 +18,11 @@ start-requires c κs = search needs
 loop-holds : tie.Need-loop-holds Inv-loop μ-loop
 loop-holds c = search measuring-first
 
-easy-part-requires : tie.Need-easy-part-requires Inv-loop μ-loop
-easy-part-requires c κs = search needs
+part-at-requires : tie.Need-part-at-requires Inv-loop μ-loop
+part-at-requires c κs = search needs
 
 add-count : tie.Need-add-count Inv-loop μ-loop
-add-count c = search (part-fits _ _ _ _ _ _ (c .before .before .loop .inv) _ _ (c .before .easy-part .ensures))
+add-count c = search (part-fits _ _ _ _ _ _ (c .before .before .loop .inv) _ _ (c .before .part-at .ensures))
 
 step-at-requires : tie.Need-step-at-requires Inv-loop μ-loop
 step-at-requires c κs = search part-in
@@ -33,12 +33,12 @@ enum-known-st c = search needs
 feed-requires : tie.Need-feed-requires Inv-loop μ-loop
 feed-requires c κs =
     let k = c .before .before .before in
-    search (feed-four _ _ _ _ _ _ (k .before .before .before .loop .inv) _ _ (k .before .before .easy-part .ensures) _ (k .step-at .ensures))
+    search (feed-four _ _ _ _ _ _ (k .before .before .before .loop .inv) _ _ (k .before .before .part-at .ensures) _ (k .step-at .ensures))
 
 add-count-2 : tie.Need-add-count-2 Inv-loop μ-loop
 add-count-2 c =
     let k = c .before .before .before .before in
-    search (count-fits _ _ _ _ _ _ (k .before .before .before .loop .inv) _ _ (k .before .before .easy-part .ensures) _ (k .step-at .ensures))
+    search (count-fits _ _ _ _ _ _ (k .before .before .before .loop .inv) _ _ (k .before .before .part-at .ensures) _ (k .step-at .ensures))
 
 report-count-requires : tie.Need-report-count-requires Inv-loop μ-loop
 report-count-requires c κs = search needs
@@ -46,22 +46,22 @@ report-count-requires c κs = search needs
 add-reports : tie.Need-add-reports Inv-loop μ-loop
 add-reports c =
     let k = c .before .before .before .before .before in
-    search (reports-fits _ _ _ _ _ _ (k .before .before .before .loop .inv) _ _ (k .before .before .easy-part .ensures) _ (k .step-at .ensures))
+    search (reports-fits _ _ _ _ _ _ (k .before .before .before .loop .inv) _ _ (k .before .before .part-at .ensures) _ (k .step-at .ensures))
 
 add-i : tie.Need-add-i Inv-loop μ-loop
 add-i c =
     let k = c .before .before .before .before .before in
-    search (offset-fits _ _ _ _ _ _ (k .before .before .before .loop .inv) _ _ (k .before .before .easy-part .ensures) _ (k .step-at .ensures))
+    search (offset-fits _ _ _ _ _ _ (k .before .before .before .loop .inv) _ _ (k .before .before .part-at .ensures) _ (k .step-at .ensures))
 
 loop-less : tie.Need-loop-less Inv-loop μ-loop
 loop-less c =
     let k = c .before .before .before .before .before in
-    search (offset-less _ _ _ _ _ _ (k .before .before .before .loop .inv) _ _ (k .before .before .easy-part .ensures) _ (k .step-at .ensures))
+    search (offset-less _ _ _ _ _ _ (k .before .before .before .loop .inv) _ _ (k .before .before .part-at .ensures) _ (k .step-at .ensures))
 
 loop-again : tie.Need-loop-again Inv-loop μ-loop
 loop-again c =
     let k = c .before .before .before .before .before in
-    search (measuring-go _ _ _ _ _ _ (k .before .before .before .loop .inv) _ _ (k .before .before .easy-part .ensures) _ (k .step-at .ensures))
+    search (measuring-go _ _ _ _ _ _ (k .before .before .before .loop .inv) _ _ (k .before .before .part-at .ensures) _ (k .step-at .ensures))
 
 enum-known-st-2 : tie.Need-enum-known-st-2 Inv-loop μ-loop
 enum-known-st-2 c = search needs
@@ -77,7 +77,7 @@ measure-literal-spec =
     μ-loop
     start-requires
     loop-holds
-    easy-part-requires
+    part-at-requires
     add-count
     step-at-requires
     enum-known-st

@@ -51,7 +51,7 @@ plain-end-requires-2 : tie.Need-plain-end-requires-2 Inv-loop μ-loop
 plain-end-requires-2 c κs =
     let b = c .before in
     let k = b .before .before in
-    text-char _ _ _ (k .before .before .before .loop .inv) (k .before .before .loop-test .taken) (k .if1 .left) _ (b .char-size .ensures) (c .if2 .left) .inside
+    omega (arith, text-char _ _ _ (k .before .before .before .loop .inv) (k .before .before .loop-test .taken) (k .if1 .left) _ (b .char-size .ensures) (c .if2 .left) .inside)
 
 loop-less : tie.Need-loop-less Inv-loop μ-loop
 loop-less c = search needs

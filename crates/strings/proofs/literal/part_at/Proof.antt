@@ -1,24 +1,24 @@
--- `easy_part` meets its contract: text, and then escapes of one letter, make the part longer. Assumes nothing.
-use Rattle.strings.proofs.Parts.{easy-none, easy-more, sum-fits, count-fits, double-fits, end-fits, end-later}
-use Rattle.strings.specs.Plain.{Easy}
+-- `part_at` meets its contract: text, and then escapes of one letter, make the part longer. Assumes nothing.
+use Rattle.strings.proofs.Parts.{spells-none, spells-more, sum-fits, total-fits, double-fits, end-fits, end-later}
+use Rattle.strings.specs.Plain.{Spells}
 use lib.ListN.{length}
 use Prim.Native.Nat.{_-_}
 use mathlib.Core.Path.{refl}
 use borrow.Author.Needs.{needs}
-use Rattle.strings.proofs.literal.easy_part.Statement.{statement}
-use Rattle.strings.proofs.literal.easy_part.Tie as tie
+use Rattle.strings.proofs.literal.part_at.Statement.{statement}
+use Rattle.strings.proofs.literal.part_at.Tie as tie
 
 abbrev Inv-loop : tie.InvT-loop
-Inv-loop s i need end₀ count₀ end count = Easy s i end count
+Inv-loop s i need end₀ count₀ end count = Spells s i end count
 
 abbrev μ-loop : tie.MeasureT-loop
 μ-loop s i need end₀ count₀ end count = length s - end
 
 returns : tie.Need-returns Inv-loop μ-loop
-returns c = (search easy-none, λ _. refl)
+returns c = (search spells-none, λ _. refl)
 
 loop-holds : tie.Need-loop-holds Inv-loop μ-loop
-loop-holds c = search easy-none
+loop-holds c = search spells-none
 
 text-end-requires : tie.Need-text-end-requires Inv-loop μ-loop
 text-end-requires c κs = search needs
@@ -33,7 +33,7 @@ add-count : tie.Need-add-count Inv-loop μ-loop
 add-count c = search sum-fits
 
 add-count-2 : tie.Need-add-count-2 Inv-loop μ-loop
-add-count-2 c = search count-fits
+add-count-2 c = search total-fits
 
 mul-end : tie.Need-mul-end Inv-loop μ-loop
 mul-end c = search double-fits
@@ -42,16 +42,16 @@ add-end : tie.Need-add-end Inv-loop μ-loop
 add-end c = search end-fits
 
 returns-2 : tie.Need-returns-2 Inv-loop μ-loop
-returns-2 c = (search easy-more, λ z. absurd (z (c .before .before .before .before .if1 .left)))
+returns-2 c = (search spells-more, λ z. absurd (z (c .before .before .before .before .if1 .left)))
 
 loop-less : tie.Need-loop-less Inv-loop μ-loop
 loop-less c = search end-later
 
 loop-again : tie.Need-loop-again Inv-loop μ-loop
-loop-again c = search easy-more
+loop-again c = search spells-more
 
-pub easy-part-spec : {M : Type 1} → statement M
-easy-part-spec =
+pub part-at-spec : {M : Type 1} → statement M
+part-at-spec =
     tie.close
     (tie.spec
     Inv-loop

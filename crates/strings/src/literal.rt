@@ -219,11 +219,15 @@ fn all_plain(s: &[u8]) -> bool
     all_ordinary(s)
 }
 
-// The end of the blocks from i on of bytes that stand for themselves.
+// The end of the blocks from i on of bytes that stand for themselves. Where escapes follow each other there are none, and the first byte says
+// it.
 fn past_ordinary(s: &[u8], i: usize) -> usize
     requires { ⌜ i ≤ length (now s) ⌝ }
     ensures { λ r. ⌜ Ahead inOrdinary (now (s .entry)) i r ⌝ }
 {
+    if !is_ordinary(base::peek(s, i)) {
+        return i;
+    }
     let mut e = i;
     while BLOCK <= s.len() - e {
         let end = e + BLOCK;
@@ -288,16 +292,21 @@ fn text_end(s: &[u8], i: usize) -> usize
     requires { ⌜ i ≤ length (now s) ⌝ }
     ensures { λ r. ⌜ Text (now (s .entry)) i r ⌝ }
 {
-    let mut e = plain_end(s, i);
+    let mut e = i;
     while e < s.len() {
-        if s[e] < 0x80 {
+        let b = s[e];
+        if is_plain(b) {
+            e = plain_end(s, e + 1);
+            continue;
+        }
+        if b < 0x80 {
             return e;
         }
         let n = char_size(&s[e..]);
         if n == 0 {
             return e;
         }
-        e = plain_end(s, e + n);
+        e += n;
     }
     e
 }

@@ -15,6 +15,15 @@ Inv-loop s i e₀ e = Ahead inOrdinary s i e
 abbrev μ-loop : tie.MeasureT-loop
 μ-loop s i e₀ e = length s - e
 
+peek-requires : tie.Need-peek-requires Inv-loop μ-loop
+peek-requires c κs = search needs
+
+is-ordinary-requires : tie.Need-is-ordinary-requires Inv-loop μ-loop
+is-ordinary-requires c κs = search needs
+
+returns : tie.Need-returns Inv-loop μ-loop
+returns c = search ahead-first
+
 loop-holds : tie.Need-loop-holds Inv-loop μ-loop
 loop-holds c = search ahead-first
 
@@ -36,8 +45,8 @@ part-all-ordinary-end c = search needs
 all-ordinary-requires : tie.Need-all-ordinary-requires Inv-loop μ-loop
 all-ordinary-requires c κs = search needs
 
-returns : tie.Need-returns Inv-loop μ-loop
-returns c = search needs
+returns-2 : tie.Need-returns-2 Inv-loop μ-loop
+returns-2 c = search needs
 
 loop-less : tie.Need-loop-less Inv-loop μ-loop
 loop-less c = search needs
@@ -45,10 +54,10 @@ loop-less c = search needs
 loop-again : tie.Need-loop-again Inv-loop μ-loop
 loop-again c =
     let b = c .before .before .before in
-    ahead-block isOrdinary inOrdinary (λ a n e. e) _ _ _ _ (b .before .loop .inv) (b .loop-test .taken) _ (c .before .all-ordinary .ensures) (not-false _ (c .if1 .left))
+    ahead-block isOrdinary inOrdinary (λ a n e. e) _ _ _ _ (b .before .loop .inv) (b .loop-test .taken) _ (c .before .all-ordinary .ensures) (not-false _ (c .if2 .left))
 
-returns-2 : tie.Need-returns-2 Inv-loop μ-loop
-returns-2 c = search needs
+returns-3 : tie.Need-returns-3 Inv-loop μ-loop
+returns-3 c = search needs
 
 pub past-ordinary-spec : {M : Type 1} → statement M
 past-ordinary-spec =
@@ -56,6 +65,9 @@ past-ordinary-spec =
     (tie.spec
     Inv-loop
     μ-loop
+    peek-requires
+    is-ordinary-requires
+    returns
     loop-holds
     sub-loop
     add-end
@@ -63,7 +75,7 @@ past-ordinary-spec =
     part-all-ordinary-start
     part-all-ordinary-end
     all-ordinary-requires
-    returns
+    returns-2
     loop-less
     loop-again
-    returns-2)
+    returns-3)

@@ -1,5 +1,5 @@
--- `text_end` meets its contract: a character and the plain bytes after it make the text longer. Assumes nothing.
-use Rattle.strings.proofs.Parts.{text-then, text-char}
+-- `text_end` meets its contract: plain bytes, or a character of several bytes, make the text longer. Assumes nothing.
+use Rattle.strings.proofs.Parts.{text-none, text-then, text-byte, text-char}
 use Rattle.strings.specs.Plain.{Text}
 use lib.ListN.{length}
 use Prim.Native.Nat.{_-_}
@@ -14,14 +14,29 @@ Inv-loop s i e₀ e = Text s i e
 abbrev μ-loop : tie.MeasureT-loop
 μ-loop s i e₀ e = length s - e
 
+loop-holds : tie.Need-loop-holds Inv-loop μ-loop
+loop-holds c = search text-none
+
+shared-slice-read-b : tie.Need-shared-slice-read-b Inv-loop μ-loop
+shared-slice-read-b c = search needs
+
+is-plain-requires : tie.Need-is-plain-requires Inv-loop μ-loop
+is-plain-requires c κs = search needs
+
+add-plain-end : tie.Need-add-plain-end Inv-loop μ-loop
+add-plain-end c = search needs
+
 plain-end-requires : tie.Need-plain-end-requires Inv-loop μ-loop
 plain-end-requires c κs = search needs
 
-loop-holds : tie.Need-loop-holds Inv-loop μ-loop
-loop-holds c = search needs
+loop-less : tie.Need-loop-less Inv-loop μ-loop
+loop-less c = search needs
 
-shared-slice-read-if1 : tie.Need-shared-slice-read-if1 Inv-loop μ-loop
-shared-slice-read-if1 c = search needs
+loop-again : tie.Need-loop-again Inv-loop μ-loop
+loop-again c =
+    let b = c .before .before in
+    let l = b .before .before in
+    text-then _ _ _ _ (text-byte _ _ _ (l .before .loop .inv) (l .loop-test .taken) _ (b .is-plain .ensures) (c .before .if1 .taken)) (c .plain-end .ensures)
 
 returns : tie.Need-returns Inv-loop μ-loop
 returns c = search needs
@@ -41,26 +56,26 @@ char-size-requires c κs = search needs
 returns-2 : tie.Need-returns-2 Inv-loop μ-loop
 returns-2 c = search needs
 
-add-plain-end : tie.Need-add-plain-end Inv-loop μ-loop
-add-plain-end c =
+add-e : tie.Need-add-e Inv-loop μ-loop
+add-e c =
     let b = c .before in
     let k = b .before .before in
-    omega (arith, text-char _ _ _ (k .before .before .before .loop .inv) (k .before .before .loop-test .taken) (k .if1 .left) _ (b .char-size .ensures) (c .if2 .left) .inside)
+    let l = k .before .before .before .before in
+    omega (arith, text-char _ _ _ (l .before .loop .inv) (l .loop-test .taken) (k .if2 .left) _ (b .char-size .ensures) (c .if3 .left) .inside)
 
-plain-end-requires-2 : tie.Need-plain-end-requires-2 Inv-loop μ-loop
-plain-end-requires-2 c κs =
+loop-less-2 : tie.Need-loop-less-2 Inv-loop μ-loop
+loop-less-2 c =
     let b = c .before in
     let k = b .before .before in
-    omega (arith, text-char _ _ _ (k .before .before .before .loop .inv) (k .before .before .loop-test .taken) (k .if1 .left) _ (b .char-size .ensures) (c .if2 .left) .inside)
+    let l = k .before .before .before .before in
+    omega (arith, text-char _ _ _ (l .before .loop .inv) (l .loop-test .taken) (k .if2 .left) _ (b .char-size .ensures) (c .if3 .left) .inside)
 
-loop-less : tie.Need-loop-less Inv-loop μ-loop
-loop-less c = search needs
-
-loop-again : tie.Need-loop-again Inv-loop μ-loop
-loop-again c =
-    let b = c .before .before in
+loop-again-2 : tie.Need-loop-again-2 Inv-loop μ-loop
+loop-again-2 c =
+    let b = c .before in
     let k = b .before .before in
-    text-then _ _ _ _ (text-char _ _ _ (k .before .before .before .loop .inv) (k .before .before .loop-test .taken) (k .if1 .left) _ (b .char-size .ensures) (c .before .if2 .left)) (c .plain-end2 .ensures)
+    let l = k .before .before .before .before in
+    text-char _ _ _ (l .before .loop .inv) (l .loop-test .taken) (k .if2 .left) _ (b .char-size .ensures) (c .if3 .left)
 
 returns-3 : tie.Need-returns-3 Inv-loop μ-loop
 returns-3 c = search needs
@@ -71,17 +86,20 @@ text-end-spec =
     (tie.spec
     Inv-loop
     μ-loop
-    plain-end-requires
     loop-holds
-    shared-slice-read-if1
+    shared-slice-read-b
+    is-plain-requires
+    add-plain-end
+    plain-end-requires
+    loop-less
+    loop-again
     returns
     sub-char-size
     part-char-size-start
     part-char-size-end
     char-size-requires
     returns-2
-    add-plain-end
-    plain-end-requires-2
-    loop-less
-    loop-again
+    add-e
+    loop-less-2
+    loop-again-2
     returns-3)

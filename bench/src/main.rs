@@ -3,8 +3,11 @@
 //! whether the proved one stays as fast on longer texts.
 //!
 //! What is timed of the proved library is one call, into buffers that were
-//! allocated and touched before. The Rust allocates as it goes; that its tokens
-//! are freed is not timed. Each time is the best of several runs.
+//! allocated and touched before: buffers that suffice for any text of the
+//! length, which is read in one pass, and buffers of just the result's size,
+//! which is measured first. The goals are for the former. The Rust allocates as
+//! it goes; that its tokens are freed is not timed. Each time is the best of
+//! several runs.
 
 mod texts;
 
@@ -31,7 +34,10 @@ const MOST_TOKENS: usize = (3 << 30) / (8 * RECORD);
 fn main() -> ExitCode {
     let mut tally = Tally::default();
     println!("Bytes a second on 8 MiB");
-    println!("{:<30}{:>12}{:>12}  ratio", "", "proved", "Rust");
+    println!(
+        "{:<30}{:>12}{:>12}{:>12}  ratios",
+        "", "enough", "exact", "Rust"
+    );
     for text in &TEXTS {
         beside_the_rust(text, &mut tally);
     }
@@ -44,10 +50,14 @@ fn main() -> ExitCode {
 
 fn beside_the_rust(text: &Text, tally: &mut Tally) {
     let mut reading = Reading::new(text, SIZE);
-    reading.lend_buffers();
-    let (proved, rust) = (reading.proved_speed(RUNS), reading.rust_speed(RUNS));
-    let (name, ratio, goal) = (text.name, proved / rust, text.goal);
-    println!("{name:<30}{proved:>12.0}{rust:>12.0}{ratio:>7.2}");
+    let rust = reading.rust_speed(RUNS);
+    reading.lend_exactly();
+    let exact = reading.proved_speed(RUNS);
+    reading.lend_enough();
+    let enough = reading.proved_speed(RUNS);
+    let (name, goal) = (text.name, text.goal);
+    let (ratio, exact_ratio) = (enough / rust, exact / rust);
+    println!("{name:<30}{enough:>12.0}{exact:>12.0}{rust:>12.0}{ratio:>7.2}{exact_ratio:>7.2}");
     tally.check(ratio >= goal, || format!("{name}: the goal is {goal}"));
 }
 
@@ -61,7 +71,7 @@ fn on_longer_texts(text: &Text, tally: &mut Tally) {
             shown += "    left out";
             continue;
         }
-        reading.lend_buffers();
+        reading.lend_exactly();
         let speed = reading.proved_speed(RUNS);
         shown += &format!("{speed:>12.0}");
         speeds.push(speed);
@@ -97,16 +107,32 @@ impl Reading {
         }
     }
 
-    fn lend_buffers(&mut self) {
+    /// Buffers that suffice for any text of the length.
+    fn lend_enough(&mut self) {
+        let len = self.text.len();
+        let most_reports = match self.mode {
+            Mode::Strict => 0,
+            Mode::Tolerant => len,
+        };
+        self.lend(len + 1, most_reports);
+    }
+
+    /// Just the token slice that the text needs.
+    fn lend_exactly(&mut self) {
         // A report takes two bytes of text or more, but for one.
         let most_reports = match self.mode {
             Mode::Strict => 0,
             Mode::Tolerant => self.text.len() / 2 + 1,
         };
+        self.lend(self.tokens, most_reports);
+    }
+
+    fn lend(&mut self, tokens: usize, reports: usize) {
+        self.buffers = Buffers::untouched(Lent::NONE);
         self.buffers = Buffers::untouched(Lent {
-            tokens: RECORD * self.tokens,
+            tokens: RECORD * tokens,
             strings: self.text.len(),
-            reports: 5 * most_reports,
+            reports: 5 * reports,
         });
     }
 

@@ -111,7 +111,8 @@ fn write(
         let j = k * REPORT_WIDTH;
         put_token(text, t, mode, limit, tokens, i, strings, m, reports, j);
         n += 1;
-        if kind.number() == 0 {
+        let number = kind.number();
+        if number == 0 {
             return Counts {
                 tokens: n,
                 strings: m,

@@ -50,21 +50,19 @@ pub fn walk(text: &[u8], from: Place, to: usize) -> Place
     ensures { λ r. ⌜ r ≡ placeAt (now (text .entry)) to ⌝ }
 {
     let s = &text[..to];
-    let mut offset = from.offset;
-    let mut line = from.line;
-    let mut column = from.column;
+    let mut place = from;
     loop {
-        let end = base::find::find(s, b'\n', offset);
-        column += end - offset;
+        let at = place.offset;
+        let end = base::find::find(s, b'\n', at);
+        let column = place.column + (end - at);
+        let here = Place {
+            offset: end,
+            line: place.line,
+            column,
+        };
         if to <= end {
-            return Place {
-                offset: end,
-                line,
-                column,
-            };
+            return here;
         }
-        offset = end + 1;
-        line += 1;
-        column = 1;
+        place = here.step(b'\n');
     }
 }

@@ -1,19 +1,20 @@
 -- `walk` gives the place of `to`: at each turn the place is that of an offset of the text up to `to`, a line further. Assumes nothing.
-use mathlib.Core.Path.{_≡_, sym, _∙_}
+use mathlib.Core.Path.{_≡_, sym, ap, _∙_}
 use Prim.Native.Nat.{_-_}
 use native.Mathlib.Omega.{arith}
 use lib.Seq.{length-take-le}
 use Rattle.token.specs.Place.{Walkable}
-use Rattle.token.proofs.Places.{place-cut, walk-cut, walk-line, walk-newline}
+use Rattle.token.specs.declared.place.Place.{Place}
+use Rattle.token.proofs.Places.{place-cut, place-steppable, walk-cut, walk-line, walk-newline}
 use borrow.Author.Needs.{needs}
 use Rattle.token.proofs.place.walk.Statement.{statement}
 use Rattle.token.proofs.place.walk.Tie as tie
 
 abbrev Inv-loop : tie.InvT-loop
-Inv-loop text to s offset₀ line₀ column₀ offset line column = Walkable s (record { offset = offset; line = line; column = column }) to
+Inv-loop text to s place₀ place = Walkable s place to
 
 abbrev μ-loop : tie.MeasureT-loop
-μ-loop text to s offset₀ line₀ column₀ offset line column = to - offset
+μ-loop text to s place₀ place = to - place .offset
 
 slice-aggregate-s : tie.Need-slice-aggregate-s Inv-loop μ-loop
 slice-aggregate-s c = sym (length-take-le _ _ (c .before .before .pre .inside))
@@ -29,13 +30,13 @@ sub-column c = let l = walk-line _ _ _ (c .before .loop .inv) _ (c .find .ensure
 
 add-column : tie.Need-add-column Inv-loop μ-loop
 add-column c =
-    let w = c .before .loop .inv in
-    let l = walk-line _ _ _ w _ (c .find .ensures) in
-    omega (arith, l .column, l .inside, w .short)
+    let w = c .before .before .loop .inv in
+    let l = walk-line _ _ _ w _ (c .before .find .ensures) in
+    record { fits = omega (arith, l .column, l .inside, w .short) }
 
 returns : tie.Need-returns Inv-loop μ-loop
 returns c =
-    let b = c .before in
+    let b = c .before .before in
     let a = b .before .before .before .before in
     let text = a .args .text .now in
     let to = a .args .to in
@@ -43,25 +44,23 @@ returns c =
     let z : b .find .result ≡ to = omega (arith, l .inside, c .if1 .taken, length-take-le to text (a .pre .inside)) in
     l .end ∙ rw z (place-cut text to to (omega arith))
 
-add-offset : tie.Need-add-offset Inv-loop μ-loop
-add-offset c =
-    let w = c .before .before .loop .inv in
-    let l = walk-line _ _ _ w _ (c .before .find .ensures) in
-    omega (arith, l .inside, w .short)
-
-add-line : tie.Need-add-line Inv-loop μ-loop
-add-line c =
-    let w = c .before .before .loop .inv in
-    let l = walk-line _ _ _ w _ (c .before .find .ensures) in
-    omega (arith, l .line, l .inside, w .short)
+step-requires : tie.Need-step-requires Inv-loop μ-loop
+step-requires c κs =
+    let b = c .before .before in
+    let w = b .before .loop .inv in
+    let l = walk-line _ _ _ w _ (b .find .ensures) in
+    place-steppable _ _ _ (l .end) (omega (arith, c .if1 .left, w .inside)) (w .short)
 
 loop-less : tie.Need-loop-less Inv-loop μ-loop
 loop-less c =
-    let l = walk-line _ _ _ (c .before .before .loop .inv) _ (c .before .find .ensures) in
-    omega (arith, l .later, c .if1 .left)
+    let b = c .before .before .before in
+    let l = walk-line _ _ _ (b .before .loop .inv) _ (b .find .ensures) in
+    omega (arith, ap (λ (p : Place). p .offset) (c .step .ensures), l .later, c .before .if1 .left)
 
 loop-again : tie.Need-loop-again Inv-loop μ-loop
-loop-again c = walk-newline _ _ _ (c .before .before .loop .inv) _ (c .before .find .ensures) (c .if1 .left)
+loop-again c =
+    let b = c .before .before .before in
+    rw (c .step .ensures) (walk-newline _ _ _ (b .before .loop .inv) _ (b .find .ensures) (c .before .if1 .left))
 
 pub walk-spec : {M : Type 1} → statement M
 walk-spec =
@@ -75,7 +74,6 @@ walk-spec =
     sub-column
     add-column
     returns
-    add-offset
-    add-line
+    step-requires
     loop-less
     loop-again)

@@ -40,7 +40,8 @@ extern "C" {
 #define PXF_MAX_MESSAGE_SIZE 67108864
 #define PXF_MAX_BYTES_LITERAL_LENGTH 67108864
 
-/* Reads a whole text. */
+/* Reads a whole text. Buffers of PXF_TOKEN_WIDTH * (text_len + 1) numbers, text_len bytes and, where the mode is tolerant, PXF_REPORT_WIDTH *
+ * text_len numbers suffice for any text; with these it is read in one pass, else it is measured first. */
 uint8_t pxf_read_text(
     const uint8_t *text,   /* the text, any bytes */
     size_t text_len,

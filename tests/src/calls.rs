@@ -78,7 +78,7 @@ pub fn compare(text: &[u8], setting: Setting, depth: Depth) -> Result<u64, Box<D
 
 pub fn compare_call(text: &[u8], call: Call) -> Result<u64, Box<Difference>> {
     let from_rust = call.ask_rust(text);
-    let rooms = call.rooms(&from_rust);
+    let rooms = call.rooms(text, &from_rust);
     for &lent in &rooms {
         let given = call.make(text, lent);
         let expected = expected(&from_rust, lent);
@@ -126,6 +126,18 @@ fn calls_everywhere(text: &[u8], setting: Setting) -> Vec<Call> {
     calls
 }
 
+/// Longer texts are not lent buffers that suffice for any text.
+const LONGEST_FOR_ANY: usize = 1000;
+
+/// The lengths with one taken from those whose bits are set, if there is one.
+fn one_short(lent: Lent, short: usize) -> Option<Lent> {
+    Some(Lent {
+        tokens: lent.tokens.checked_sub(short & 1)?,
+        strings: lent.strings.checked_sub(short >> 1 & 1)?,
+        reports: lent.reports.checked_sub(short >> 2 & 1)?,
+    })
+}
+
 impl Call {
     /// What document 01 has, taken from the Rust, with ample buffers.
     fn ask_rust(self, text: &[u8]) -> Result<Accepted, Refusal> {
@@ -161,9 +173,10 @@ impl Call {
         })
     }
 
-    /// The lengths of buffers to try: exact, generous, none, and each and
-    /// several of them one short.
-    fn rooms(self, from_rust: &Result<Accepted, Refusal>) -> Vec<Lent> {
+    /// The lengths of buffers to try: exact, generous, none, each and several
+    /// of them one short; and those that suffice for any text of the length,
+    /// each of them one short too, since with these a text is not measured.
+    fn rooms(self, text: &[u8], from_rust: &Result<Accepted, Refusal>) -> Vec<Lent> {
         if let Call::Place(_) = self {
             return vec![Lent::NONE];
         }
@@ -179,19 +192,19 @@ impl Call {
         if exact.tokens > 0 {
             rooms.push(Lent::NONE);
         }
-        for short in 1..8 {
-            let less = |length: usize, bit: usize| length.checked_sub(short >> bit & 1);
-            if let (Some(tokens), Some(strings), Some(reports)) = (
-                less(exact.tokens, 0),
-                less(exact.strings, 1),
-                less(exact.reports, 2),
-            ) {
-                rooms.push(Lent {
-                    tokens,
-                    strings,
-                    reports,
-                });
-            }
+        rooms.extend((1..8).filter_map(|short| one_short(exact, short)));
+        if let (Call::Text(_), 0..=LONGEST_FOR_ANY) = (self, text.len()) {
+            let any = Lent {
+                tokens: RECORD * (text.len() + 1),
+                strings: text.len(),
+                reports: 5 * text.len(),
+            };
+            rooms.extend(
+                [0, 1, 2, 4]
+                    .map(|short| one_short(any, short))
+                    .into_iter()
+                    .flatten(),
+            );
         }
         rooms
     }

@@ -10,6 +10,7 @@ use lib.Dec.{T, leb, ltb, eqb}
 use lib.ListN.{length, List·getD-eq-default}
 use Rattle.base.specs.Choice.{pick}
 use Rattle.base.specs.Bytes.{byte, within}
+use Rattle.base.specs.Classes.{isDigit}
 
 pub and-left : (a b : Bool) → a && b ≡ true → a ≡ true
 and-left true b e = refl
@@ -141,3 +142,8 @@ within-one k x = go (eqb x k) refl
 pub as-number : (t : Bool) → boolByte t ≡ pick t 1 0
 as-number true = refl
 as-number false = refl
+
+-- past the end of a text, where 0 is read, no digit stands
+pub no-digit : isDigit 0 ≡ false
+unfolding isDigit
+no-digit = refl

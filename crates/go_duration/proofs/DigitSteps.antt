@@ -16,7 +16,7 @@ use Rattle.base.specs.Choice.{pick}
 use Rattle.base.specs.Bytes.{byte}
 use Rattle.base.specs.Classes.{isDigit}
 use Rattle.base.specs.Runs.{run, reach}
-use Rattle.base.proofs.Tests.{and-left, and-right, in-text, within-low, within-high}
+use Rattle.base.proofs.Tests.{and-left, and-right, in-text, no-digit, within-low, within-high}
 use Rattle.go_duration.specs.Fraction.{most, scaleOf, ten, more, room, Acc, acc, noDigits, addDigit, readDigits}
 use Rattle.go_duration.specs.Parse.{inDigits}
 use Rattle.go_duration.specs.Stages.{fractionOf, accOf, KeptTo, keepsAt}
@@ -26,10 +26,6 @@ use Rattle.go_duration.specs.declared.fraction.Fraction.{Fraction}
 pub digit-range : (b : ℕ) → isDigit b ≡ true → (48 ≤ b) × (b ≤ 57)
 unfolding isDigit
 digit-range b e = (within-low 48 57 b e, within-high 48 57 b e)
-
-no-digit : isDigit 0 ≡ false
-unfolding isDigit
-no-digit = refl
 
 -- ---- the digits that are dropped, which are counted alone
 read-over : (l : List ℕ) (f k n : ℕ) → readDigits l (acc f k n true) ≡ acc f k (n + run inDigits l) true

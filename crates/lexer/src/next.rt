@@ -93,7 +93,8 @@ fn end_place(text: &[u8], start: Place, kind: TokenKind, len: usize) -> Place
     }
 }
 
-// The token after a place of the text, with its places. Blanks have no newline.
+// The token after a place of the text, with its places. Blanks have no newline. The lexeme's fields are read one by one where they lie: a copy
+// of it would wait until all of it is stored.
 pub fn next_token(text: &[u8], place: Place, mode: Mode, limit: usize) -> Token
     requires { ⌜ Walkable (now text) place (place .offset) ⌝ }
     ensures { λ r. ⌜ r ≡ nextToken mode limit (now (text .entry)) (place .offset) ⌝ }

@@ -77,7 +77,7 @@ pub record TokenPut (m : Mode) (limit : ℕ) (text : List ℕ) (t : Token) (i s 
   pub of-string : S′ ≡ sets S s (stringOf m (drop (t .start .offset) text))
   pub of-notes : R′ ≡ sets R k (notesNumbers text (t .start .offset) (notesOf m limit (drop (t .start .offset) text)))
 
--- how many reports any text of so many bytes can have: "The strict reader makes no report"
+-- how many reports any text of so many bytes can have: a strict reading makes none
 abbrev pub mostReports : Mode → ℕ → ℕ
 mostReports Strict len = 0
 mostReports Tolerant len = len

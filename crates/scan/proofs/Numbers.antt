@@ -16,7 +16,7 @@ use Rattle.base.specs.Classes.{isDigit, isLowerAlpha, isIdentPart, isDurationUn
 use Rattle.base.specs.Runs.{reach, past}
 use Rattle.base.proofs.Reaches.{reach-ge, reach-one}
 use Rattle.base.proofs.Walks.{past-ge}
-use Rattle.base.proofs.Tests.{and-left, and-right, or-case, pick-case, true-false, in-text}
+use Rattle.base.proofs.Tests.{and-left, and-right, or-case, pick-case, true-false, in-text, no-digit}
 use Rattle.token.specs.Kind.{kindNumber}
 use Rattle.token.specs.Place.{Flat}
 use Rattle.token.specs.declared.kind.TokenKind.the-variants as K
@@ -63,10 +63,6 @@ unit-lower a e =
 no-unit : isDurationUnit 0 ≡ false
 unfolding isDurationUnit
 no-unit = refl
-
-no-digit : isDigit 0 ≡ false
-unfolding isDigit
-no-digit = refl
 
 -- and so the run goes on over it
 unit-more : (s : List ℕ) (f : ℕ) → atDurationUnit (byte s f) (byte s (f + 1)) ≡ true → f < past unitPiece s f

@@ -9,6 +9,7 @@ use base::class::is_digit;
 use base::class::is_ident_part;
 use base::class::is_lower_alpha;
 use base::class::is_space;
+use base::find::BLOCK;
 
 // The runs that lexer.rs knows.
 pub enum Run {
@@ -52,9 +53,6 @@ fn in_run(k: Run, a: u8, b: u8) -> bool
         Run::Stamp => !ends_timestamp(a, b),
     }
 }
-
-// How many bytes a block has.
-const BLOCK: usize = 16;
 
 // Whether each byte but the last belongs to the run. It looks at every byte, so that several can be tested by one instruction.
 fn all_in(k: Run, s: &[u8]) -> bool

@@ -18,6 +18,7 @@ ghost use Rattle.strings.specs.Literal.{literalOf};
 use crate::digit::simple;
 use crate::piece::Piece;
 use crate::piece::next_piece;
+use base::find::BLOCK;
 use base::find::lacks;
 use lexeme::Mode;
 use utf8::ascii::all_ascii;
@@ -192,9 +193,6 @@ fn is_plain(b: u8) -> bool
 {
     (b < 0x80) & is_ordinary(b)
 }
-
-// How many bytes are tested at once.
-const BLOCK: usize = 16;
 
 // Whether all bytes stand for themselves. Each test is a loop of its own, which tests several bytes by one instruction.
 fn all_ordinary(s: &[u8]) -> bool

@@ -5,9 +5,7 @@ ghost use lib.ListN.{length};
 ghost use Rattle.base.specs.Runs.{reach};
 ghost use Rattle.base.specs.Blocks.{allPass, Ahead};
 ghost use Rattle.utf8.specs.Ascii.{isAscii, ascii};
-
-// How many bytes a block has.
-const BLOCK: usize = 16;
+use base::find::BLOCK;
 
 // Whether all bytes are ASCII. It looks at every byte, so that several can be tested by one instruction.
 pub fn all_ascii(s: &[u8]) -> bool

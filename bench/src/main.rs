@@ -16,7 +16,7 @@ use std::str::from_utf8;
 
 use oracle::cases::DEFAULT_LIMIT;
 use oracle::ffi::{self, Buffers};
-use oracle::records::{lexer, Lent, Mode, RECORD};
+use oracle::records::{lexer, Lent, Mode, RECORD, REPORT};
 use oracle::tally::Tally;
 use oracle::timing::best_seconds;
 use oracle::token::TokenKind;
@@ -111,12 +111,7 @@ impl Reading {
 
     /// Buffers that suffice for any text of the length.
     fn lend_enough(&mut self) {
-        let len = self.text.len();
-        let most_reports = match self.mode {
-            Mode::Strict => 0,
-            Mode::Tolerant => len,
-        };
-        self.lend(len + 1, most_reports);
+        self.lend(Lent::for_any(self.text.len(), self.mode));
     }
 
     /// Just the token slice that the text needs.
@@ -126,16 +121,17 @@ impl Reading {
             Mode::Strict => 0,
             Mode::Tolerant => self.text.len() / 2 + 1,
         };
-        self.lend(self.tokens, most_reports);
+        self.lend(Lent {
+            tokens: RECORD * self.tokens,
+            strings: self.text.len(),
+            reports: REPORT * most_reports,
+        });
     }
 
-    fn lend(&mut self, tokens: usize, reports: usize) {
+    fn lend(&mut self, lent: Lent) {
+        // The old ones are freed before the new ones are made.
         self.buffers = Buffers::untouched(Lent::NONE);
-        self.buffers = Buffers::untouched(Lent {
-            tokens: RECORD * tokens,
-            strings: self.text.len(),
-            reports: 5 * reports,
-        });
+        self.buffers = Buffers::untouched(lent);
     }
 
     fn proved_speed(&mut self, runs: usize) -> f64 {

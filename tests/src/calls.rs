@@ -193,17 +193,12 @@ impl Call {
             rooms.push(Lent::NONE);
         }
         rooms.extend((1..8).filter_map(|short| one_short(exact, short)));
-        if let (Call::Text(_), 0..=LONGEST_FOR_ANY) = (self, text.len()) {
-            let any = Lent {
-                tokens: RECORD * (text.len() + 1),
-                strings: text.len(),
-                reports: 5 * text.len(),
-            };
+        if let (Call::Text(setting), 0..=LONGEST_FOR_ANY) = (self, text.len()) {
+            let any = Lent::for_any(text.len(), setting.mode());
             rooms.extend(
                 [0, 1, 2, 4]
-                    .map(|short| one_short(any, short))
                     .into_iter()
-                    .flatten(),
+                    .filter_map(|short| one_short(any, short)),
             );
         }
         rooms

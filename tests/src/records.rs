@@ -10,8 +10,10 @@ pub const RECORD: usize = 12;
 /// Kind, reason, detail, start, end, line, column, value place, value length,
 /// precision place, precision length, nanoseconds.
 pub type Record = [i64; RECORD];
+/// How many numbers a report has.
+pub const REPORT: usize = 5;
 /// Reason, detail, offset, line, column.
-pub type Report = [i64; 5];
+pub type Report = [i64; REPORT];
 
 #[derive(Debug, Clone, Copy, PartialEq, Eq)]
 pub enum Mode {
@@ -42,6 +44,19 @@ impl Lent {
         strings: usize::MAX,
         reports: usize::MAX,
     };
+    /// Buffers that suffice for any text of the length.
+    pub fn for_any(len: usize, mode: Mode) -> Lent {
+        let most_reports = match mode {
+            Mode::Strict => 0,
+            Mode::Tolerant => len,
+        };
+        Lent {
+            tokens: RECORD * (len + 1),
+            strings: len,
+            reports: REPORT * most_reports,
+        }
+    }
+
     /// No buffers at all.
     pub const NONE: Lent = Lent {
         tokens: 0,

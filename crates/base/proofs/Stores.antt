@@ -1,11 +1,12 @@
--- Stores into lists, one element after the other: two runs of stores are one, and a copy is a run of stores. Assumes nothing.
+-- Stores into lists, one element after the other: two runs of stores are one, also where the second stores the end of the first again, and a
+-- copy is a run of stores. Assumes nothing.
 use mathlib.Core.Path.{_≡_, refl, sym, ap, _∙_}
-use mathlib.Core.List.{List, [], _∷_, _++_}
+use mathlib.Core.List.{List, [], _∷_, _++_, append-nil}
 use Prim.Native.Nat.{ℕ, zero, suc, _+_, _≤_, _<_, _-_}
 use native.Mathlib.Nat.{add-zero, sub-zero, zero-add, add-suc, suc-add}
 use native.Mathlib.Omega.{arith}
-use lib.ListN.{length, set, take, drop, getD, drop-of-length-le}
-use lib.Seq.{sets, sets-eq, drop-cons}
+use lib.ListN.{length, set, take, drop, getD, length-drop, drop-of-length-le}
+use lib.Seq.{sets, sets-eq, set-set, set-comm, drop-cons, drop-drop, length-take-le, take-add, take-take, drop-length}
 use Rattle.base.specs.Buffers.{overlay}
 
 module _ {A : Type 0} where
@@ -19,6 +20,43 @@ module _ {A : Type 0} where
   -- a run of stores from the front is the values, and then the rest as it was
   pub overlaid : (vs l : List A) → length vs ≤ length l → sets l 0 vs ≡ overlay vs l
   overlaid vs l h = sets-eq vs l 0 (omega arith) ∙ simp zero-add
+
+  -- as many values as the list has are all that it holds after
+  pub overlaid-all : (vs l : List A) → length vs ≡ length l → sets l 0 vs ≡ vs
+  overlaid-all vs l h = overlaid vs l (omega arith) ∙ rw (h, drop-length l) (append-nil vs)
+
+  -- a store comes before or after a run of stores past its index
+  set-sets : (l : List A) (i j : ℕ) (v : A) (vs : List A) → i < j → set (sets l j vs) i v ≡ sets (set l i v) j vs
+  set-sets l i j v [] h = refl
+  set-sets l i j v (w ∷ vs) h =
+      set-sets (set l j w) i (suc j) v vs (omega arith) ∙ rw (set-comm l j i w v (λ e. omega arith))
+
+  -- values stored over their own front
+  sets-again : (l : List A) (i k : ℕ) (vs : List A) → sets (sets l i (take k vs)) i vs ≡ sets l i vs
+  sets-again l i zero vs = refl
+  sets-again l i (suc k) [] = refl
+  sets-again l i (suc k) (v ∷ vs) =
+      rw (set-sets (set l i v) i (suc i) v (take k vs) (omega arith), set-set l i v v) (sets-again (set l i v) (suc i) k vs)
+
+  -- a front of the values and those that follow it
+  sets-front : (l : List A) (i : ℕ) (vs : List A) (j n : ℕ) → j ≤ length vs
+      → sets l i (take (j + n) vs) ≡ sets (sets l i (take j vs)) (i + j) (take n (drop j vs))
+  sets-front l i vs j n h = rw (take-add j n vs) (rw (length-take-le j vs h) at (sets-append l i (take j vs) (take n (drop j vs))))
+
+  -- a front of k values, then n of them from the j-th on, some of which are stored again
+  sets-part : (l : List A) (i : ℕ) (vs : List A) (j k n : ℕ) → j ≤ k → k ≤ j + n → j ≤ length vs
+      → sets (sets l i (take k vs)) (i + j) (take n (drop j vs)) ≡ sets l i (take (j + n) vs)
+  sets-part l i vs j k n g h r =
+      let e : j + (k - j) ≡ k = omega arith in
+      let f : sets l i (take k vs) ≡ sets (sets l i (take j vs)) (i + j) (take (k - j) (drop j vs)) = rw e at (sets-front l i vs j (k - j) r) in
+      let t : take (k - j) (take n (drop j vs)) ≡ take (k - j) (drop j vs) = take-take (k - j) n (drop j vs) (omega arith) in
+      rw f (rw t at (sets-again (sets l i (take j vs)) (i + j) (k - j) (take n (drop j vs)))) ∙ sym (sets-front l i vs j n r)
+
+  -- a copy by parts: k elements are copied, then n from the j-th on, some of which are copied again
+  pub copy-part : (d : List A) (to : ℕ) (s : List A) (start j k n : ℕ) → j ≤ k → k ≤ j + n → start + j ≤ length s
+      → sets (sets d to (take k (drop start s))) (to + j) (take n (drop (start + j) s)) ≡ sets d to (take (j + n) (drop start s))
+  copy-part d to s start j k n g h r =
+      rw (← drop-drop j start s) (sets-part d to (drop start s) j k n g h (rw (length-drop start s) (omega arith)))
 
 -- a copy element by element: what is left to copy, stored from here on. `z` is what `getD` gives past the end.
 module _ {A : Type 0} (z : A) where

@@ -5,7 +5,7 @@ ghost use lib.ListN.{length};
 ghost use Rattle.base.specs.Runs.{reach};
 ghost use Rattle.base.specs.Blocks.{allPass, isNot, other, Ahead};
 
-// How many bytes a block has, wherever bytes are tested by blocks.
+// How many bytes a block has, wherever bytes are tested or copied by blocks.
 pub const BLOCK: usize = 16;
 
 // Whether no byte is `c`. It looks at every byte, so that several can be tested by one instruction.

@@ -1,0 +1,44 @@
+-- `copy_block` leaves the stores of a block: the bytes that the block has been filled with are all its bytes. Assumes nothing.
+use mathlib.Core.Path.{_≡_, _∙_}
+use lib.ListN.{length, take, drop, length-drop}
+use lib.Seq.{length-take-le, take-all}
+use native.Mathlib.Omega.{arith}
+use borrow.Author.Needs.{needs}
+use Rattle.base.proofs.Stores.{overlaid-all}
+use Rattle.base.proofs.copy_block.Statement.{statement}
+use Rattle.base.proofs.copy_block.Tie as tie
+
+slice-aggregate-copy-bytes : tie.Need-slice-aggregate-copy-bytes
+slice-aggregate-copy-bytes c = search needs
+
+copy-bytes-requires : tie.Need-copy-bytes-requires
+copy-bytes-requires c κs = search needs
+
+slice-aggregate-copy-bytes-2 : tie.Need-slice-aggregate-copy-bytes-2
+slice-aggregate-copy-bytes-2 c = search needs
+
+copy-bytes-requires-2 : tie.Need-copy-bytes-requires-2
+copy-bytes-requires-2 c κs = search needs
+
+same-length : tie.Need-same-length
+same-length c = search needs
+
+returns : tie.Need-returns
+returns c =
+    let b = c .before .before .before .before .before .before in
+    let a = b .before .before .before .before in
+    let s = drop (a .args .start) (a .args .src .now) in
+    let n : length (take 16 s) ≡ 16 = length-take-le 16 s (rw length-drop (omega arith)) in
+    let f : b .copy-bytes .last .0 ≡ take 16 s = rw (b .copy-bytes .ensures) (overlaid-all (take 16 s) _ n) in
+    c .before .before .copy-bytes2 .ensures ∙ rw (f, take-all 16 (take 16 s) (omega arith))
+
+pub copy-block-spec : {M : Type 1} → statement M
+copy-block-spec =
+    tie.close
+    (tie.spec
+    slice-aggregate-copy-bytes
+    copy-bytes-requires
+    slice-aggregate-copy-bytes-2
+    copy-bytes-requires-2
+    same-length
+    returns)

@@ -26,6 +26,7 @@ const MIB: usize = 1 << 20;
 const SIZE: usize = 8 * MIB;
 const SIZES: [usize; 4] = [SIZE, 16 * MIB, 32 * MIB, 64 * MIB];
 const RUNS: usize = 5;
+const ROUNDS: usize = 4;
 /// On longer texts the speed is at least this part of that on 8 MiB. If the time
 /// grew with the square of the length, it would be an eighth on 64 MiB; caches
 /// alone can halve it.
@@ -52,11 +53,14 @@ fn main() -> ExitCode {
 
 fn beside_the_rust(text: &Text, tally: &mut Tally) {
     let mut reading = Reading::new(text, SIZE);
-    let rust = reading.rust_speed(RUNS);
-    reading.lend_exactly();
-    let exact = reading.proved_speed(RUNS);
-    reading.lend_enough();
-    let enough = reading.proved_speed(RUNS);
+    let (mut enough, mut exact, mut rust) = (0.0f64, 0.0f64, 0.0f64);
+    for _ in 0..ROUNDS {
+        rust = rust.max(reading.rust_speed(RUNS));
+        reading.lend_exactly();
+        exact = exact.max(reading.proved_speed(RUNS));
+        reading.lend_enough();
+        enough = enough.max(reading.proved_speed(RUNS));
+    }
     let (name, goal) = (text.name, text.goal);
     let (ratio, exact_ratio) = (enough / rust, exact / rust);
     println!("{name:<30}{enough:>12.0}{exact:>12.0}{rust:>12.0}{ratio:>7.2}{exact_ratio:>7.2}");

@@ -8,11 +8,11 @@ use native.Mathlib.Nat.{add-zero, le-of-suc-le-suc, not-suc-le-zero}
 use native.Mathlib.Numerals.{add-one}
 use native.Mathlib.Omega.{arith}
 use lib.ListN.{length, take, drop, length-drop, drop-of-length-le}
-use lib.Seq.{drop-cons}
+use lib.Seq.{drop-cons, drop-drop}
 use Rattle.base.specs.Bytes.{byte}
 use Rattle.base.specs.Runs.{reach}
 use Rattle.base.specs.Blocks.{allPass, allPairs, Ahead}
-use Rattle.base.proofs.Reaches.{reach-step}
+use Rattle.base.proofs.Reaches.{reach-step, rest-is}
 use Rattle.base.proofs.Tests.{and-left, and-right}
 
 -- a loop over all bytes: what is passed and what is left make the whole
@@ -49,6 +49,9 @@ module _ (p : ℕ → ℕ → Bool) (s : List ℕ) (all : Bool) (i : ℕ) (u : a
 pub ahead-first : (p : ℕ → ℕ → Bool) (s : List ℕ) (i : ℕ) → i ≤ length s → Ahead p s i i
 ahead-first p s i h = record { later = omega arith; inside = h; same = refl }
 
+pub ahead-then : (p : ℕ → ℕ → Bool) (s : List ℕ) (i e r : ℕ) → Ahead p s i e → Ahead p s e r → Ahead p s i r
+ahead-then p s i e r u v = record { later = omega (arith, u .later, v .later); inside = v .inside; same = v .same ∙ u .same }
+
 -- a byte that passes the test is in the run, whatever byte comes after it
 module _ (t : ℕ → Bool) (p : ℕ → ℕ → Bool) (sure : (a b : ℕ) → t a ≡ true → p a b ≡ true) where
   -- n such bytes from i on
@@ -70,6 +73,22 @@ module _ (t : ℕ → Bool) (p : ℕ → ℕ → Bool) (sure : (a b : ℕ) → t
       let z : i + n - i ≡ n = omega arith in
       let f : allPass t (take n (drop i s)) ≡ true = sym (rw z at e) ∙ y in
       record { later = omega (arith, u .later); inside = omega (arith, u .inside); same = block s n i (omega (arith, u .inside)) f ∙ u .same }
+
+  -- bytes that all pass to the end of the text: the run from any of them goes there
+  rest-pass : (k : ℕ) (l : List ℕ) → allPass t l ≡ true → allPass t (drop k l) ≡ true
+  unfolding allPass
+  rest-pass zero l e = e
+  rest-pass (suc k) [] e = refl
+  rest-pass (suc k) (a ∷ l) e = rest-pass k l (and-right (t a) (allPass t l) e)
+
+  pub ahead-rest : (s : List ℕ) (last i : ℕ) → last ≤ i → i ≤ length s → (b : Bool) → b ≡ allPass t (take (length s - last) (drop last s)) → b ≡ true
+      → Ahead p s i (length s)
+  ahead-rest s last i h l b e y =
+      let k : last + (i - last) ≡ i = omega arith in
+      let n : i + (length s - i) ≡ length s = omega arith in
+      let g : allPass t (drop last s) ≡ true = rw (rest-is s last) at (sym e ∙ y) in
+      let f : allPass t (drop i s) ≡ true = rw (drop-drop (i - last) last s, k) at (rest-pass (i - last) (drop last s) g) in
+      record { later = l; inside = omega arith; same = rw n at (block s (length s - i) i (omega arith) (rw (rest-is s i) f)) }
 
 -- the same of pairs
 module _ (p : ℕ → ℕ → Bool) where

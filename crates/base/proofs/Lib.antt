@@ -1,6 +1,7 @@
 pub mod Tests
 pub mod Reaches
 pub mod Blocks
+pub mod Windows
 pub mod Fronts
 pub mod Walks
 pub mod Stores

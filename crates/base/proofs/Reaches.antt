@@ -1,5 +1,5 @@
 -- Laws of runs of bytes: an index into the text against the rest that starts there. By induction on the rest. Assumes nothing.
-use mathlib.Core.Path.{_≡_, refl, ap, sym, _∙_}
+use mathlib.Core.Path.{_≡_, refl}
 use mathlib.Core.Bool.{Bool, true, false}
 use mathlib.Core.List.{List, [], _∷_}
 use Prim.Native.Nat.{ℕ, zero, suc, _+_, _-_, _≤_, _<_, zero-le, suc-le-suc}
@@ -62,7 +62,7 @@ module _ (p : ℕ → ℕ → Bool) (s : List ℕ) (i : ℕ) where
   reach-le h = omega (arith, run-le p (drop i s), length-drop i s)
 
 -- where a run ends before the end of the text, the byte there fails
-run-fails : (p : ℕ → ℕ → Bool) (s : List ℕ) → run p s < length s → p (byte s (run p s)) (byte s (run p s + 1)) ≡ false
+pub run-fails : (p : ℕ → ℕ → Bool) (s : List ℕ) → run p s < length s → p (byte s (run p s)) (byte s (run p s + 1)) ≡ false
 unfolding run
 run-fails p [] h = absurd (not-suc-le-zero h)
 run-fails p (a ∷ s) h = go (p a (byte s 0)) refl h (run-fails p s)
@@ -85,7 +85,7 @@ pub rest-is : (s : List ℕ) (i : ℕ) → take (length s - i) (drop i s) ≡ dr
 rest-is s i = take-all (length s - i) (drop i s) (omega (arith, length-drop i s))
 
 -- each byte of a run passes
-run-all : (p : ℕ → ℕ → Bool) (s : List ℕ) (k : ℕ) → k < run p s → p (byte s k) (byte s (k + 1)) ≡ true
+pub run-all : (p : ℕ → ℕ → Bool) (s : List ℕ) (k : ℕ) → k < run p s → p (byte s k) (byte s (k + 1)) ≡ true
 unfolding run
 run-all p [] k h = absurd (not-suc-le-zero h)
 run-all p (a ∷ s) k h = go (p a (byte s 0)) refl k h (run-all p s)

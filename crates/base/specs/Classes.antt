@@ -1,5 +1,5 @@
 -- The classes of bytes that lexer.rs tests for.
-use mathlib.Core.Bool.{Bool, _&&_, _||_}
+use mathlib.Core.Bool.{Bool, _||_}
 use Prim.Native.Nat.{ℕ}
 use lib.Dec.{eqb}
 use Rattle.base.specs.Bytes.{within}

@@ -1,5 +1,5 @@
 -- Runs over the rest of a text: of bytes that pass a test, and of pieces of several bytes.
-use mathlib.Core.Bool.{Bool, true, false}
+use mathlib.Core.Bool.{Bool}
 use mathlib.Core.List.{List, [], _∷_}
 use Prim.Native.Nat.{ℕ, zero, suc, _+_, _-_}
 use lib.Dec.{eqb}

@@ -1,5 +1,5 @@
 -- `parse` of go_duration.rs on a list of bytes, with document 01's refusals: "number at most 2^63, unit, repeated".
-use mathlib.Core.Bool.{Bool, true, false, not, _&&_, _||_}
+use mathlib.Core.Bool.{Bool, not, _&&_, _||_}
 use mathlib.Core.List.{List, [], _∷_}
 use Prim.Native.Nat.{ℕ, zero, suc, _+_, _-_, _*_}
 use lib.Dec.{ltb, eqb}

@@ -1,8 +1,8 @@
 -- A duration as it is written: document 01, "The words of demand 3", with no word of how it is read.
 use mathlib.Core.Path.{_≡_}
-use mathlib.Core.Bool.{Bool, true, false, not, _&&_, _||_}
+use mathlib.Core.Bool.{Bool, true, false, not, _||_}
 use mathlib.Core.List.{List, [], _∷_, _++_}
-use Prim.Native.Nat.{ℕ, zero, suc, _+_, _-_, _*_, _/_, _^_, _≤_, _<_}
+use Prim.Native.Nat.{ℕ, _+_, _-_, _*_, _/_, _^_, _≤_, _<_}
 use lib.Dec.{eqb}
 use lib.IntN.{ℤ, pos, _-ℤ_}
 use lib.ListN.{length}

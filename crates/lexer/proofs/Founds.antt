@@ -2,37 +2,36 @@
 use mathlib.Core.Path.{_≡_, refl, sym, ap, _∙_, subst}
 use mathlib.Core.Bool.{true, _||_}
 use mathlib.Core.Logic.{⊎-elim}
-use mathlib.Core.List.{List, [], _∷_}
-use Prim.Native.Nat.{ℕ, zero, suc, _+_, _-_, _≤_, _<_}
+use mathlib.Core.List.{List, []}
+use Prim.Native.Nat.{ℕ, _+_, _-_, _≤_, _<_}
 use native.Mathlib.Nat.{add-zero, eq-or-lt-of-le}
 use native.Mathlib.Omega.{arith}
 use lib.Dec.{ltb, eqb}
-use lib.ListN.{length, take, drop, length-drop, drop-of-length-le}
+use lib.ListN.{length, take, drop, length-drop}
 use lib.Seq.{getD-drop, drop-drop}
 use borrow.Author.Tests.{eqb-true, eq-eqb}
 use Rattle.base.specs.Choice.{pick}
 use Rattle.base.specs.Bytes.{byte, AreBytes}
 use Rattle.base.specs.Classes.{isSpace}
-use Rattle.base.specs.Runs.{run, reach}
-use Rattle.base.proofs.Reaches.{reach-ge, reach-le, reach-all}
+use Rattle.base.proofs.Reaches.{reach-ge, reach-le, reach-all, rest-is}
 use Rattle.base.proofs.Tests.{or-case, true-false}
+use Rattle.utf8.specs.Check.{isTail}
 use Rattle.utf8.specs.Grammar as octets
 use Rattle.utf8.specs.Grammar.{Octets, Boundary}
-use Rattle.utf8.proofs.Boundaries.{boundary-le, boundary-rest, rest-boundary, reach-boundary}
-use Rattle.go_duration.specs.Written.{SumOfParts}
+use Rattle.utf8.proofs.Boundaries.{octets-cut, boundary-le, boundary-rest, rest-boundary, reach-boundary}
 use Rattle.token.specs.Kind.{onOneLine}
 use Rattle.token.specs.Place.{placeAt, Flat, Walkable}
 use Rattle.token.specs.declared.kind.TokenKind.the-variants as K
 use Rattle.token.specs.declared.place.Place.{Place}
 use Rattle.token.proofs.Places.{place-offset, flat-along}
-use Rattle.lexeme.specs.Lexeme.{bare, Note}
+use Rattle.lexeme.specs.Lexeme.{bare}
 use Rattle.lexeme.specs.declared.Lexeme.{Lexeme}
 use Rattle.lexeme.specs.declared.Mode.{Mode}
-use Rattle.lexer.specs.Lexer.{lexemeOf, stringOf, notesOf}
+use Rattle.lexer.specs.Lexer.{FromQuote, lexemeOf, stringOf, notesOf}
 use Rattle.lexer.specs.Token.{inBlanks, startAt, foundAt, endOf, nextToken}
 use Rattle.lexer.specs.declared.next.Found.{Found}
 use Rattle.lexer.specs.declared.next.Token.{Token}
-use Rattle.lexer.proofs.Lexed.{Lexed, NotesIn, lexed}
+use Rattle.lexer.proofs.Lexed.{Lexed, lexed}
 
 -- the token found after the offset `at`: an Eof at the text's end, else one of at least a byte
 pub record Next (m : Mode) (limit : ℕ) (text : List ℕ) (at : ℕ) (f : Found) : Type 0 where
@@ -42,6 +41,16 @@ pub record Next (m : Mode) (limit : ℕ) (text : List ℕ) (at : ℕ) (f : Found
   pub inside : endOf f ≤ length text
   pub eof : f .start ≡ length text → f .lexeme ≡ bare K.Eof 0
   pub more : f .start < length text → Lexed m limit (drop (f .start) text) (f .lexeme)
+
+-- from a quote on, the rest of a well-formed text is well formed
+quote-rest : (text : List ℕ) (i : ℕ) → Octets text → i ≤ length text → FromQuote (drop i text)
+unfolding isTail
+quote-rest text i o h e =
+    let b : byte text i ≡ 34 = rw (getD-drop i text 0 0, add-zero i) at e in
+    octets-cut o i h (rw b) .1
+
+pub from-quote : (text : List ℕ) (i : ℕ) → Octets text → i ≤ length text → FromQuote (take (length text - i) (drop i text))
+from-quote text i o h = subst FromQuote (sym (rest-is text i)) (quote-rest text i o h)
 
 pub start-le : (text : List ℕ) (at : ℕ) → at ≤ length text → startAt text at ≤ length text
 unfolding startAt

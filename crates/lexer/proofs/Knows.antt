@@ -1,6 +1,6 @@
 -- What a token's class says of its first bytes: by cases on the tests of `classOf`. Assumes nothing.
-use mathlib.Core.Path.{_≡_, refl, sym, subst, _∙_}
-use mathlib.Core.Bool.{Bool, true, false, _&&_, _||_}
+use mathlib.Core.Path.{_≡_, sym, subst, _∙_}
+use mathlib.Core.Bool.{true, _&&_, _||_}
 use mathlib.Core.Logic.{_⊎_, inl, inr}
 use mathlib.Core.List.{List}
 use Prim.Native.Nat.{ℕ, _≤_}
@@ -90,3 +90,7 @@ unfolding quotes
 triple-long s k e q =
     let w = subst (Knows (byte s 0) (byte s 1) (byte s 2)) (sym e ∙ q) (knows-at s) in
     quotes-long s (rw (w .0, w .1 .0, w .1 .1))
+
+-- a string begins with a quote
+pub quote-first : (s : List ℕ) (k : Class) → k ≡ classAt s → k ≡ C.Quote → byte s 0 ≡ 34
+quote-first s k e q = subst (Knows (byte s 0) (byte s 1) (byte s 2)) (sym e ∙ q) (knows-at s)

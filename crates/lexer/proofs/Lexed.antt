@@ -1,16 +1,16 @@
 -- What is known of the token at the front of a text that is not at its end: by cases on its class, from what each lexer's laws say.
 -- Assumes nothing.
-use mathlib.Core.Path.{_≡_, refl, sym, ap, _∙_, subst}
-use mathlib.Core.Bool.{Bool, true, false}
+use mathlib.Core.Path.{_≡_, refl, sym, ap, _∙_}
+use mathlib.Core.Bool.{true, false}
 use mathlib.Core.Logic.{⊎-elim, _⊎_, inl, inr}
 use mathlib.Core.List.{List, [], _∷_, List·Memᴰ, List·Memᴰ·head, List·Memᴰ·tail, List·Memᴰ·not-nil}
-use Prim.Native.Nat.{ℕ, zero, suc, _+_, _≤_, _<_}
+use Prim.Native.Nat.{ℕ, _≤_, _<_}
 use native.Mathlib.Omega.{arith}
 use lib.Dec.{ltb, eqb, lit<}
 use lib.ListN.{length, take, drop}
 use borrow.Author.Tests.{eq-eqb, ne-eqb}
 use Rattle.base.specs.Bytes.{byte}
-use Rattle.base.specs.Classes.{isDigit, isIdentStart}
+use Rattle.base.specs.Classes.{isIdentStart}
 use Rattle.base.proofs.Tests.{in-text, pick-case, true-false}
 use Rattle.utf8.specs.Grammar as octets
 use Rattle.utf8.specs.Grammar.{Boundary, Octets}
@@ -26,7 +26,7 @@ use Rattle.lexeme.specs.Lexeme.{bare, whole, Note}
 use Rattle.lexeme.specs.declared.Lexeme.{Lexeme}
 use Rattle.lexeme.specs.declared.Mode.{Mode}
 use Rattle.lexeme.specs.declared.Mode.the-variants.{Strict, Tolerant}
-use Rattle.lexeme.proofs.Within.{Within, whole-within, bare-within}
+use Rattle.lexeme.proofs.Within.{Within}
 use Rattle.scan.specs.Comment.{lexLineComment, bodyEnd, openComment, lexBlockComment, blockNotes}
 use Rattle.scan.specs.Name.{lexIdent, lexDirective}
 use Rattle.scan.specs.Number.{lexNumber}
@@ -41,7 +41,7 @@ use Rattle.scan.proofs.Names.{ident-on-line, directive-on-line}
 use Rattle.scan.proofs.Numbers.{number-on-line}
 use Rattle.scan.proofs.Literals.{bytes-scanned, bytes-notes-size, bytes-notes-start}
 use Rattle.scan.proofs.Others.{other-scanned}
-use Rattle.strings.proofs.Laws.{NoteIn, string-within, string-kind, string-size, string-notes-size, illegal-bytes, notes-in, string-utf8, string-boundary}
+use Rattle.strings.proofs.Laws.{string-within, string-kind, string-size, string-notes-size, illegal-bytes, notes-in, string-utf8, string-boundary}
 use Rattle.strings.specs.Literal.{lexString, stringBytes, stringNotes}
 use Rattle.triple_strings.specs.Triple.{quotes, closed, openTriple, lexTripleString, tripleBytes, tripleNotes}
 use Rattle.triple_strings.proofs.QuoteSearch.{quotes-long}

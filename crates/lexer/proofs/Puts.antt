@@ -3,22 +3,20 @@
 use mathlib.Core.Path.{_≡_, refl, sym, ap, _∙_, subst}
 use mathlib.Core.Bool.{Bool, true, false, _&&_}
 use mathlib.Core.Logic.{⊎-elim, _⊎_, inl, inr}
-use mathlib.Core.List.{List, [], _∷_, _++_}
+use mathlib.Core.List.{List, [], _∷_}
 use Prim.Native.Nat.{ℕ, zero, suc, _+_, _≤_, _<_}
 use native.Mathlib.Nat.{add-zero}
 use native.Mathlib.Omega.{arith}
 use lib.Dec.{ltb, eqb, lit≤}
 use lib.ListN.{length, drop, length-drop}
-use borrow.Author.Tests.{eqb-true, eq-eqb, ne-eqb}
+use borrow.Author.Tests.{eqb-true, ne-eqb}
 use Rattle.base.specs.Choice.{pick}
 use Rattle.base.specs.Bytes.{byte}
 use Rattle.base.proofs.Tests.{and-left, and-right, true-false}
 use Rattle.token.specs.Place.{placeAt, Walkable}
 use Rattle.token.specs.Layout.{reportWidth, reportNumbers, ReportFits}
-use Rattle.token.specs.declared.kind.TokenKind.{TokenKind}
-use Rattle.token.specs.declared.kind.TokenKind.the-variants as K
 use Rattle.token.specs.declared.place.Place.{Place}
-use Rattle.lexeme.specs.Lexeme.{Note, noteAtStart}
+use Rattle.lexeme.specs.Lexeme.{noteAtStart}
 use Rattle.lexeme.specs.Reports.{reportAt, reportOf, notesNumbers}
 use Rattle.lexeme.specs.declared.Mode.{Mode}
 use Rattle.lexeme.specs.declared.Mode.the-variants.{Strict, Tolerant}
@@ -28,12 +26,11 @@ use Rattle.scan.specs.Comment.{bodyEnd, blockNotes}
 use Rattle.scan.specs.Bytes.{bytesStop, bytesNotes, notesBy, stopReason}
 use Rattle.scan.specs.declared.bytes.Stop.{Stop}
 use Rattle.scan.specs.declared.bytes.Stop.the-variants as stop
-use Rattle.strings.specs.Literal.{literalOf, lexString, stringBytes, stringNotes}
-use Rattle.strings.specs.Notes.{NotesFit}
+use Rattle.strings.specs.Literal.{literalOf, stringBytes, stringNotes}
 use Rattle.strings.proofs.Laws.{string-kind, string-bytes, illegal-bytes}
 use Rattle.triple_strings.specs.Dedent.{dedent}
 use Rattle.triple_strings.specs.Triple as literal
-use Rattle.triple_strings.specs.Triple.{quotes, closed, rawBytes, lexTripleString, tripleBytes, tripleNotes}
+use Rattle.triple_strings.specs.Triple.{quotes, closed, rawBytes, tripleBytes, tripleNotes}
 use Rattle.triple_strings.proofs.Triples.{triple-size, triple-bytes}
 use Rattle.lexer.specs.Lexer as lexer
 use Rattle.lexer.specs.Lexer.{classOf, classAt, stringBy, stringOf, notesOf}

@@ -1,13 +1,14 @@
 -- The token at the front of the rest of a text: `next_token` of lexer.rs, after its blanks.
-use mathlib.Core.Bool.{Bool, true, false, _&&_}
-use mathlib.Core.List.{List, [], _∷_}
+use mathlib.Core.Path.{_≡_}
+use mathlib.Core.Bool.{_&&_}
+use mathlib.Core.List.{List, []}
 use Prim.Native.Nat.{ℕ}
 use lib.Dec.{eqb}
 use lib.ListN.{length}
 use Rattle.base.specs.Choice.{pick}
 use Rattle.base.specs.Bytes.{byte}
 use Rattle.base.specs.Classes.{isDigit, isIdentStart}
-use Rattle.token.specs.declared.kind.TokenKind.{TokenKind}
+use Rattle.utf8.specs.Grammar.{Octets}
 use Rattle.token.specs.declared.kind.TokenKind.the-variants as K
 use Rattle.lexeme.specs.Lexeme.{whole, bare, Note}
 use Rattle.lexeme.specs.declared.Lexeme.{Lexeme}
@@ -48,6 +49,10 @@ classOf a b c =
 -- the class of what stands at the front of a list
 unfoldable pub classAt : List ℕ → Class
 classAt s = classOf (byte s 0) (byte s 1) (byte s 2)
+
+-- where a quote stands at the front, the whole is UTF8-octets, as the rest of a well-formed text from a quote on is
+abbrev pub FromQuote : List ℕ → Type 0
+FromQuote s = byte s 0 ≡ 34 → Octets s
 
 -- the token of each class
 unfoldable pub lexBy : Class → Mode → ℕ → List ℕ → Lexeme

@@ -12,7 +12,6 @@ use Rattle.token.specs.Kind.{kindNumber, onOneLine}
 use Rattle.token.specs.Place.{placeAt, Flat, Walkable}
 use Rattle.token.specs.declared.place.Place.{Place}
 use Rattle.token.specs.declared.kind.TokenKind.{TokenKind}
-use Rattle.lexeme.specs.declared.Lexeme.{Lexeme}
 use Rattle.lexeme.specs.declared.Mode.{Mode}
 use Rattle.lexeme.specs.Reports.{notesNumbers}
 use Rattle.lexer.specs.Lexer.{lexemeOf, notesOf}

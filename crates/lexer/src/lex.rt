@@ -2,7 +2,7 @@
 ghost use mathlib.Core.Path.{_≡_};
 ghost use Prim.Native.Nat.{_<_};
 ghost use lib.ListN.{length};
-ghost use Rattle.lexer.specs.Lexer.{classAt, lexBy, lexemeOf};
+ghost use Rattle.lexer.specs.Lexer.{classAt, FromQuote, lexBy, lexemeOf};
 use crate::class::Class;
 use crate::class::classify;
 use base::peek;
@@ -23,7 +23,7 @@ use triple_strings::lex::lex_triple_string;
 
 // The token of a class, at the front of s.
 fn lex_by(class: Class, s: &[u8], mode: Mode, limit: usize) -> Lexeme
-    requires { ⌜ (0 < length (now s)) × (class ≡ classAt (now s)) ⌝ }
+    requires { ⌜ (0 < length (now s)) × (class ≡ classAt (now s)) × FromQuote (now s) ⌝ }
     ensures { λ r. ⌜ r ≡ lexBy class mode limit (now (s .entry)) ⌝ }
 {
     match class {
@@ -43,6 +43,7 @@ fn lex_by(class: Class, s: &[u8], mode: Mode, limit: usize) -> Lexeme
 
 // The token at the front of a text that starts with no blank.
 pub fn lex_one(s: &[u8], mode: Mode, limit: usize) -> Lexeme
+    requires { ⌜ FromQuote (now s) ⌝ }
     ensures { λ r. ⌜ r ≡ lexemeOf mode limit (now (s .entry)) ⌝ }
 {
     if s.len() == 0 {

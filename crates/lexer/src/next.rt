@@ -4,6 +4,7 @@ ghost use Prim.Native.Nat.{_+_, _≤_, _<_};
 ghost use lib.Dec.{eqb};
 ghost use lib.ListN.{length};
 ghost use Rattle.base.specs.Choice.{pick};
+ghost use Rattle.utf8.specs.Grammar.{Octets};
 ghost use Rattle.token.specs.Place.{placeAt, Walkable};
 ghost use Rattle.lexer.specs.Token.{startAt, foundAt, Ending, nextToken, stringSize};
 use crate::lex::lex_one;
@@ -46,7 +47,7 @@ pub fn skip_spaces(text: &[u8], at: usize) -> usize
 
 // The token after an offset, relative to its start.
 pub fn next_lexeme(text: &[u8], at: usize, mode: Mode, limit: usize) -> Found
-    requires { ⌜ at ≤ length (now text) ⌝ }
+    requires { ⌜ (at ≤ length (now text)) × Octets (now text) ⌝ }
     ensures { λ r. ⌜ r ≡ foundAt mode limit (now (text .entry)) at ⌝ }
 {
     let start = skip_spaces(text, at);
@@ -96,7 +97,7 @@ fn end_place(text: &[u8], start: Place, kind: TokenKind, len: usize) -> Place
 // The token after a place of the text, with its places. Blanks have no newline. The lexeme's fields are read one by one where they lie: a copy
 // of it would wait until all of it is stored.
 pub fn next_token(text: &[u8], place: Place, mode: Mode, limit: usize) -> Token
-    requires { ⌜ Walkable (now text) place (place .offset) ⌝ }
+    requires { ⌜ Walkable (now text) place (place .offset) × Octets (now text) ⌝ }
     ensures { λ r. ⌜ r ≡ nextToken mode limit (now (text .entry)) (place .offset) ⌝ }
 {
     let at = place.offset;

@@ -1,5 +1,5 @@
 -- The checks of the text, against what each answer says of it. By cases on the two tests. Assumes nothing.
-use mathlib.Core.Path.{_≡_, refl}
+use mathlib.Core.Path.{_≡_, refl, sym}
 use mathlib.Core.Bool.{Bool, true, false}
 use mathlib.Core.List.{List}
 use Prim.Native.Nat.{ℕ, _≤_, _<_}
@@ -9,9 +9,11 @@ use lib.ListN.{length}
 use borrow.Author.Tests.{lt-ltb, le-ltb, ltb-true, ltb-false}
 use Rattle.base.specs.Choice.{pick}
 use Rattle.limits.specs.Limits.{maxMessageSize}
+use Rattle.utf8.specs.Grammar.{Octets}
 use Rattle.utf8.specs.Check.{checkOf}
 use Rattle.utf8.specs.declared.check.Verdict.{Verdict}
 use Rattle.utf8.specs.declared.check.Verdict.the-variants.{WellFormed, IllFormed}
+use Rattle.utf8.proofs.Valid.{checked}
 use Rattle.reading.specs.Answers.{afterCheck}
 use Rattle.reading.specs.Passes.{judgeOf}
 use Rattle.reading.specs.declared.judge.Judged.{Judged}
@@ -61,3 +63,7 @@ module _ (text : List ℕ) where
             ill = λ n f. absurd (let z : _≡_ {A = ℕ} 0 1 = cc in omega arith);
             fit = λ f. (ltb-false _ _ p, q);
           }
+
+  -- a text that passes the check is well formed by the grammar
+  pub well-octets : checkOf text ≡ WellFormed → Octets text
+  well-octets g = checked text WellFormed (sym g) .whole refl

@@ -1,6 +1,6 @@
 -- What is known of the token after an offset, with its places: the lexer's laws of the token found, Eof or not, at the offsets of its places.
 -- Assumes nothing.
-use mathlib.Core.Path.{_≡_, refl, ap, _∙_}
+use mathlib.Core.Path.{_≡_, refl}
 use mathlib.Core.Bool.{true}
 use mathlib.Core.Logic.{⊎-elim}
 use mathlib.Core.List.{List, []}

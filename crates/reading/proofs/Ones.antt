@@ -32,7 +32,7 @@ use Rattle.reading.specs.declared.one.ReadToken.the-variants.{One, TooLo
 use Rattle.token.proofs.Places.{to-place}
 use Rattle.reading.proofs.Nexts.{Read}
 use Rattle.reading.proofs.Places.{place-is}
-use Rattle.reading.proofs.Turns.{read-of, no-string, no-notes, record-fits}
+use Rattle.reading.proofs.Turns.{read-of, record-fits}
 
 module _ (m : Mode) (limit : ℕ) (text : List ℕ) (p : Place) (T : List ℤ) (S : List ℕ) (R : List ℤ) where
   -- a refusal leaves the buffers as they are

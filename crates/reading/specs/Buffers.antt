@@ -1,7 +1,6 @@
 -- What a list of tokens lays into the three buffers: document 01, "Places and records".
 use mathlib.Core.List.{List, [], _∷_, _++_, map}
 use Prim.Native.Nat.{ℕ, _+_}
-use lib.Dec.{eqb}
 use lib.IntN.{ℤ}
 use lib.ListN.{drop}
 use Rattle.base.specs.Choice.{pick}

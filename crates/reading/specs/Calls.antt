@@ -1,11 +1,9 @@
 -- The contracts of the calls on a text: for every input, the answer and what every buffer holds.
 use mathlib.Core.Path.{_≡_}
-use mathlib.Core.List.{List, [], _∷_}
+use mathlib.Core.List.{List}
 use Prim.Native.Nat.{ℕ, _*_}
-use lib.Dec.{eqb}
 use lib.IntN.{ℤ}
 use lib.ListN.{length, take, drop}
-use Rattle.base.specs.Choice.{pick}
 use Rattle.base.specs.Buffers.{after}
 use Rattle.token.specs.Layout.{recordWidth, reportWidth, recordNumbers}
 use Rattle.token.specs.declared.place.Place.{Place}

@@ -1,7 +1,7 @@
 -- The contracts inside the calls: the checks of the text, the two passes of a whole reading, and what a token lays into each buffer.
 use mathlib.Core.Path.{_≡_}
 use mathlib.Core.Bool.{Bool, _&&_}
-use mathlib.Core.List.{List, []}
+use mathlib.Core.List.{List}
 use Prim.Native.Nat.{ℕ, _+_, _*_, _≤_}
 use lib.Dec.{leb, ltb}
 use lib.IntN.{ℤ}

@@ -3,6 +3,7 @@ ghost use mathlib.Core.Path.{_≡_};
 ghost use Prim.Native.Nat.{_≤_};
 ghost use lib.ListN.{length};
 ghost use Rattle.limits.specs.Limits.{maxMessageSize};
+ghost use Rattle.utf8.specs.Grammar.{Octets};
 ghost use Rattle.reading.specs.Answers.{readTextNumber};
 ghost use Rattle.reading.specs.Calls.{ReadsText};
 ghost use Rattle.reading.specs.Passes.{Measured, Room, Written, mostReports, sufficeFor};
@@ -63,7 +64,7 @@ pub struct Counts {
 
 // The first pass: it counts, and needs no places.
 fn measure(text: &[u8], mode: Mode, limit: usize) -> Counts
-    requires { ⌜ length (now text) ≤ maxMessageSize ⌝ }
+    requires { ⌜ (length (now text) ≤ maxMessageSize) × Octets (now text) ⌝ }
     ensures { λ r. ⌜ Measured mode limit (now (text .entry)) r ⌝ }
 {
     let mut at = 0;
@@ -97,7 +98,7 @@ fn write(
     strings: &mut [u8],
     reports: &mut [i64],
 ) -> Counts
-    requires { ⌜ Room mode limit (now text) (length (now tokens)) (length (now strings)) (length (now reports)) ⌝ }
+    requires { ⌜ Room mode limit (now text) (length (now tokens)) (length (now strings)) (length (now reports)) × Octets (now text) ⌝ }
     ensures { λ r. ⌜ Measured mode limit (now (text .entry)) r × Written mode limit (now (text .entry)) (now (tokens .entry)) (now (strings .entry)) (now (reports .entry)) (now (tokens .exit)) (now (strings .exit)) (now (reports .exit)) ⌝ }
 {
     let mut place = Place::first();

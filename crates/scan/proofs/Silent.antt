@@ -14,7 +14,6 @@ use Rattle.go_duration.specs.Parse.{parseOf}
 use Rattle.go_duration.specs.declared.parse.Parsed.{Parsed}
 use Rattle.go_duration.specs.declared.parse.Parsed.the-variants as parsed
 use Rattle.token.specs.declared.kind.TokenKind.{TokenKind}
-use Rattle.token.specs.declared.kind.TokenKind.the-variants as K
 use Rattle.lexeme.specs.declared.Lexeme.{Lexeme}
 use Rattle.scan.specs.Run.{inRun, unitPiece}
 use Rattle.scan.specs.Comment.{lexLineComment}

@@ -1,123 +1,44 @@
--- Parts of a literal that are read at once. Text that stands for itself grows by a block, a byte or a character; escapes of one letter are
--- counted and stored one after the other; and parts that follow each other are one part. Assumes nothing.
+-- Parts of a literal that are read at once. In a well-formed rest the run of bytes that stand for themselves ends between characters; escapes
+-- of one letter are counted and stored one after the other; and parts that follow each other are one part. Assumes nothing.
 use mathlib.Core.Path.{_≡_, refl, sym, ap, _∙_}
-use mathlib.Core.Bool.{Bool, true, false, _&&_, and-assoc}
-use mathlib.Core.List.{List, [], _∷_, _++_, append-assoc, append-nil}
-use Prim.Native.Nat.{ℕ, zero, suc, _+_, _-_, _*_, _^_, _≤_, _<_}
+use mathlib.Core.Bool.{Bool, true, false, not, _&&_, _||_}
+use mathlib.Core.List.{List, [], _∷_, _++_, append-assoc}
+use Prim.Native.Nat.{ℕ, suc, _+_, _-_, _*_, _^_, _≤_, _<_}
 use native.Mathlib.Nat.{add-zero}
 use native.Mathlib.Numerals.{add-one}
 use native.Mathlib.Omega.{arith}
-use borrow.Author.Tests.{eq-eqb, ne-eqb, ltb-true, ltb-false}
+use borrow.Author.Tests.{eq-eqb, ne-eqb, eqb-true, eqb-false, ltb-true, ltb-false, not-false}
 use lib.Dec.{eqb, ltb}
 use lib.ListN.{length, take, drop, set, length-drop, length-append, length-set, drop-of-length-le, List·getD-eq-default}
-use lib.Seq.{sets, drop-cons, drop-drop, take-add, length-take-le, getD-take}
+use lib.Seq.{sets, drop-cons, drop-drop, length-take-le, getD-drop}
 use mir.Syntax.{w64}
 use mir.Val.{Fits}
 use Rattle.base.specs.Choice.{pick}
-use Rattle.base.specs.Bytes.{byte}
-use Rattle.base.specs.Blocks.{allPass}
-use Rattle.base.proofs.Reaches.{rest-is}
-use Rattle.base.proofs.Tests.{and-left, and-right, within-low}
-use Rattle.utf8.specs.Grammar.{Octets, none, more, charSize}
-use Rattle.utf8.specs.Check.{isTail}
-use Rattle.utf8.proofs.Chars.{CharShape, char-shape, char-of-size, size-le}
+use Rattle.base.specs.Bytes.{byte, within}
+use Rattle.base.specs.Runs.{reach}
+use Rattle.base.proofs.Reaches.{reach-ge, reach-le}
+use Rattle.base.proofs.Tests.{and-left, and-right, or-left, or-right, true-false, under}
+use Rattle.utf8.specs.Grammar.{Octets, none, Boundary}
+use Rattle.utf8.specs.Check.{isTail, insideChar}
+use Rattle.utf8.proofs.Boundaries.{boundary-rest, rest-boundary, ascii-boundary, octets-cut, boundary-between, stop-boundary}
 use Rattle.utf8.proofs.Concatenations.{octets-append, ascii-octets}
 use Rattle.strings.specs.Piece.{look, letters, simpleOf}
-use Rattle.strings.specs.Plain.{isOrdinary, isPlain, Text, simpleAt, simpleBytes, Spells}
+use Rattle.strings.specs.Plain.{isOrdinary, inOrdinary, simpleAt, simpleBytes, Spells}
 use Rattle.strings.specs.Decode.{prepend}
-use Rattle.strings.proofs.Decodes.{from, from-ordinary, from-simple, all-pass}
+use Rattle.strings.proofs.Decodes.{from, from-run, from-simple}
 
 -- ---- text
 
-all-append : (t : ℕ → Bool) (a b : List ℕ) → allPass t (a ++ b) ≡ allPass t a && allPass t b
-unfolding allPass
-all-append t [] b = refl
-all-append t (x ∷ a) b = rw (all-append t a b) (sym (and-assoc (t x) (allPass t a) (allPass t b)))
-
-plain-ordinary : (l : List ℕ) → allPass isPlain l ≡ true → allPass isOrdinary l ≡ true
-unfolding allPass isPlain
-plain-ordinary [] e = refl
-plain-ordinary (x ∷ l) e =
-    rw (and-right (ltb x 0x80) (isOrdinary x) (and-left (isPlain x) (allPass isPlain l) e)) (plain-ordinary l (and-right (isPlain x) (allPass isPlain l) e))
-
-plain-whole : (l : List ℕ) → allPass isPlain l ≡ true → Octets l
-unfolding allPass isPlain
-plain-whole [] e = none
-plain-whole (x ∷ l) e =
-    octets-append (ascii-octets x (ltb-true x 0x80 (and-left (ltb x 0x80) (isOrdinary x) (and-left (isPlain x) (allPass isPlain l) e))))
-    (plain-whole l (and-right (isPlain x) (allPass isPlain l) e))
-
--- a byte from 0x80 on is no quote, newline or backslash
-high-ordinary : (x : ℕ) → 0x80 ≤ x → isOrdinary x ≡ true
-unfolding isOrdinary
-high-ordinary x h = rw (ne-eqb x 0x22 (λ e. omega arith), ne-eqb x 0x0A (λ e. omega arith), ne-eqb x 0x5C (λ e. omega arith))
-
--- the bytes of a character after its first are such bytes
-char-ordinary : (c : List ℕ) → CharShape c → 0x80 ≤ byte c 0 → allPass isOrdinary c ≡ true
-unfolding isTail
-char-ordinary c f h = all-pass isOrdinary c (λ k l. high-ordinary (byte c k) (high k l))
+-- a byte that does not stand for itself is ASCII, and so no UTF8-tail
+stop-clean : (a : ℕ) → isOrdinary a ≡ false → isTail a ≡ false
+unfolding isOrdinary isTail
+stop-clean a e = go (ltb a 0x80) refl
   where
-    high : (k : ℕ) → k < length c → 0x80 ≤ byte c k
-    high zero l = h
-    high (suc k) l = within-low 0x80 0xBF (byte c (suc k)) (f .tailed (suc k) (omega arith) l)
-
-module _ (s : List ℕ) where
-  pub text-none : (i : ℕ) → i ≤ length s → Text s i i
-  unfolding allPass
-  text-none i h =
-      let z : i - i ≡ 0 = omega arith in
-      record { later = omega arith; inside = h; ordinary = rw z refl; whole = rw z none }
-
-  -- text and then text
-  pub text-then : (i e r : ℕ) → Text s i e → Text s e r → Text s i r
-  text-then i e r t u =
-      let n : r - i ≡ (e - i) + (r - e) = omega arith in
-      let k : i + (e - i) ≡ e = omega arith in
-      let p : take (r - i) (drop i s) ≡ take (e - i) (drop i s) ++ take (r - e) (drop e s) =
-      rw n (take-add (e - i) (r - e) (drop i s) ∙ rw (drop-drop (e - i) i s, k)) in
-      record {
-        later = omega arith;
-        inside = u .inside;
-        ordinary = rw (p, all-append isOrdinary (take (e - i) (drop i s)) (take (r - e) (drop e s)), t .ordinary) (u .ordinary);
-        whole = rw p (octets-append (t .whole) (u .whole));
-      }
-
-  module _ (i e : ℕ) (t : Text s i e) where
-    -- a block
-    pub text-block : (n : ℕ) → n ≤ length s - e → (b : Bool) → b ≡ allPass isPlain (take (e + n - e) (drop e s)) → b ≡ true → Text s i (e + n)
-    text-block n h b q y =
-        let f : allPass isPlain (take (e + n - e) (drop e s)) ≡ true = sym q ∙ y in
-        text-then i e (e + n) t
-        (record {
-          later = omega arith;
-          inside = omega (arith, t .inside);
-          ordinary = plain-ordinary (take (e + n - e) (drop e s)) f;
-          whole = plain-whole (take (e + n - e) (drop e s)) f;
-        })
-
-    -- a byte
-    pub text-byte : e < length s → (b : Bool) → b ≡ isPlain (byte s e) → b ≡ true → Text s i (e + 1)
-    unfolding allPass
-    text-byte h b q y =
-        let k : e + 1 - e ≡ 1 = omega arith in
-        text-block 1 (omega arith) true (rw (k, drop-cons s e 0 h, ← q, y)) refl
-
-    -- a character of several bytes
-    pub text-char : e < length s → 0x80 ≤ byte s e → (n : ℕ) → n ≡ charSize (take (length s - e) (drop e s)) → (n ≡ 0 → ⊥) → Text s i (e + n)
-    text-char h g n q z =
-        let l : List ℕ = drop e s in
-        let f : charSize l ≡ suc (n - 1) = omega (arith, rw (rest-is s e) at q) in
-        let k : suc (n - 1) ≡ n = omega arith in
-        let j : e + n - e ≡ n = omega arith in
-        let c = rw k at (char-of-size l (n - 1) f) in
-        let first : byte (take n l) 0 ≡ byte s e = rw (getD-take n l 0 0 (omega arith), drop-cons s e 0 h) in
-        text-then i e (e + n) t
-        (record {
-          later = omega arith;
-          inside = omega (arith, size-le l, length-drop e s);
-          ordinary = rw j (char-ordinary (take n l) (char-shape c) (rw first g));
-          whole = rw j (rw append-nil at (more c none));
-        })
+    go : (b : Bool) → ltb a 0x80 ≡ b → within 0x80 0xBF a ≡ false
+    go true l = under 0x80 0xBF a (ltb-true a 0x80 l)
+    go false l =
+        let h : 0x80 ≤ a = ltb-false a 0x80 l in
+        true-false (isOrdinary a) (rw (ne-eqb a 0x22 (λ q. omega arith), ne-eqb a 0x0A (λ q. omega arith), ne-eqb a 0x5C (λ q. omega arith))) e
 
 -- ---- escapes of one letter
 
@@ -182,6 +103,44 @@ at-zero x = go (eqb x 0x5C)
     go : (b : Bool) → pick b (look letters 0) 0 ≡ 0
     go true = refl
     go false = refl
+
+-- the letters of escapes of one letter are ASCII, so that the rest after them is well formed
+abbrev keys-low : List (ℕ × ℕ) → Bool
+keys-low [] = true
+keys-low (p ∷ ps) = ltb (p .0) 0x80 && keys-low ps
+
+look-key : (e : ℕ) (ps : List (ℕ × ℕ)) → keys-low ps ≡ true → (look ps e ≡ 0 → ⊥) → e < 0x80
+look-key e [] h n = absurd (n refl)
+look-key e (p ∷ ps) h n = go (eqb e (p .0)) refl n (look-key e ps (and-right (ltb (p .0) 0x80) (keys-low ps) h))
+  where
+    go : (b : Bool) → eqb e (p .0) ≡ b → (pick b (p .1) (look ps e) ≡ 0 → ⊥) → ((look ps e ≡ 0 → ⊥) → e < 0x80) → e < 0x80
+    go true q n ih = rw (eqb-true e (p .0) q) (ltb-true (p .0) 0x80 (and-left (ltb (p .0) 0x80) (keys-low ps) h))
+    go false q n ih = ih n
+
+at-ascii : (x y : ℕ) → (simpleAt x y ≡ 0 → ⊥) → (x < 0x80) × (y < 0x80)
+unfolding simpleAt simpleOf letters
+at-ascii x y n = go (eqb x 0x5C) refl n
+  where
+    go : (b : Bool) → eqb x 0x5C ≡ b → (pick b (look letters y) 0 ≡ 0 → ⊥) → (x < 0x80) × (y < 0x80)
+    go true q n = (omega (arith, eqb-true x 0x5C q), look-key y letters refl n)
+    go false q n = absurd (n refl)
+
+ascii-rest : (x : ℕ) (l : List ℕ) → x < 0x80 → Octets (x ∷ l) → Octets l
+ascii-rest x l h o = boundary-rest (x ∷ l) 1 (ascii-boundary (x ∷ l) 0 (omega arith) h (rest-boundary (x ∷ l) 0 (omega arith) o))
+
+simples-rest : (l : List ℕ) → Octets l → Octets (drop (2 * length (simpleBytes l)) l)
+unfolding simpleBytes
+simples-rest [] o = o
+simples-rest (x ∷ []) o = o
+simples-rest (x ∷ y ∷ l) o = go (eqb (simpleAt x y) 0) refl (simples-rest l)
+  where
+    go : (b : Bool) → eqb (simpleAt x y) 0 ≡ b → (Octets l → Octets (drop (2 * length (simpleBytes l)) l))
+        → Octets (drop (2 * length (pick b [] (simpleAt x y ∷ simpleBytes l))) (x ∷ y ∷ l))
+    go true q ih = o
+    go false q ih =
+        let a = at-ascii x y (eqb-false (simpleAt x y) 0 q) in
+        let k : 2 * suc (length (simpleBytes l)) ≡ suc (suc (2 * length (simpleBytes l))) = omega arith in
+        rw k (ih (ascii-rest y l (a .1) (ascii-rest x (y ∷ l) (a .0) o)))
 
 -- the escapes from e on
 module _ (s : List ℕ) (e : ℕ) where
@@ -293,16 +252,29 @@ spells-then s i e r n k t u =
       is = λ m. t .is m ∙ ap (prepend (t .bytes) []) (u .is m) ∙ rw (append-assoc (t .bytes) (u .bytes) (from m s r .bytes));
     }
 
-spells-text : (s : List ℕ) (i r : ℕ) → Text s i r → Spells s i r (r - i)
-spells-text s i r t =
-    record {
-      bytes = take (r - i) (drop i s);
-      count = length-take-le (r - i) (drop i s) (omega (arith, length-drop i s, t .inside));
-      whole = t .whole;
-      later = omega (arith, t .later);
-      inside = t .inside;
-      is = λ m. from-ordinary m s i r (t .later) (t .inside) (t .ordinary);
-    }
+-- the run of bytes that stand for themselves, in a well-formed rest: it ends between characters
+module _ (s : List ℕ) (i : ℕ) (h : i ≤ length s) (o : Octets (drop i s)) where
+  run-boundary : Boundary s (reach inOrdinary s i)
+  run-boundary = stop-boundary inOrdinary (λ a b. stop-clean a) s i i (omega arith) h (rest-boundary s i h o)
+
+  run-whole : Octets (take (reach inOrdinary s i - i) (drop i s))
+  unfolding insideChar
+  run-whole =
+      let r : ℕ = reach inOrdinary s i in
+      let k : i + (r - i) ≡ r = omega (arith, reach-ge inOrdinary s i) in
+      octets-cut o (r - i) (omega (arith, length-drop i s, reach-le inOrdinary s i h)) (rw (getD-drop i s (r - i) 0, k) (boundary-between s r run-boundary)) .0
+
+  spells-run : Spells s i (reach inOrdinary s i) (reach inOrdinary s i - i)
+  spells-run =
+      let r : ℕ = reach inOrdinary s i in
+      record {
+        bytes = take (r - i) (drop i s);
+        count = length-take-le (r - i) (drop i s) (omega (arith, length-drop i s, reach-le inOrdinary s i h));
+        whole = run-whole;
+        later = omega (arith, reach-ge inOrdinary s i);
+        inside = reach-le inOrdinary s i h;
+        is = λ m. from-run m s i h;
+      }
 
 spells-simple : (s : List ℕ) (i n : ℕ) → i ≤ length s → n ≡ length (simpleBytes (drop i s)) → Spells s i (i + 2 * n) n
 spells-simple s i n h e =
@@ -316,23 +288,51 @@ spells-simple s i n h e =
     }
 
 -- `part_at` at `end`
-module _ (s : List ℕ) (i end count : ℕ) (u : Spells s i end count) (e : ℕ) (t : Text s end e) (n : ℕ) (is : n ≡ length (simpleBytes (drop e s))) where
-  pub spells-more : Spells s i (e + 2 * n) (count + (e - end + n))
-  spells-more =
-      spells-then s i end (e + 2 * n) count (e - end + n) u
-      (spells-then s end e (e + 2 * n) (e - end) n (spells-text s end e t) (spells-simple s e n (t .inside) is))
+pub record Parting (s : List ℕ) (i end count : ℕ) : Type 0 where
+  pub spells : Spells s i end count
+  pub rest : Octets (drop end s)
 
-  pub sum-fits : length s < 2 ^ 64 → Fits w64 (e - end + n)
-  sum-fits l = let p = spells-more in omega arith
+-- where no character has begun, in what is decoded or in the text
+pub none-begun : (need : ℕ) (x : Bool) → not (eqb need 0) || x ≡ false → (need ≡ 0) × (x ≡ false)
+none-begun need x e = (eqb-true need 0 (not-false (eqb need 0) (or-left (not (eqb need 0)) x e)), or-right (not (eqb need 0)) x e)
 
-  pub total-fits : length s < 2 ^ 64 → Fits w64 (count + (e - end + n))
-  total-fits l = let p = spells-more in omega arith
+pub parting-first : (s : List ℕ) (i : ℕ) → i ≤ length s → Octets s → insideChar s i ≡ false → Parting s i i 0
+unfolding insideChar
+parting-first s i h o e = record { spells = spells-none s i h; rest = octets-cut o i h e .1 }
 
-  pub double-fits : length s < 2 ^ 64 → Fits w64 (2 * n)
-  double-fits l = let p = spells-more in omega arith
+module _ (s : List ℕ) (i end count : ℕ) (u : Parting s i end count) (e : ℕ) (t : e ≡ reach inOrdinary s end) where
+  pub run-later : end ≤ e
+  run-later = rw t (reach-ge inOrdinary s end)
 
-  pub end-fits : length s < 2 ^ 64 → Fits w64 (e + 2 * n)
-  end-fits l = let p = spells-more in omega arith
+  pub run-inside : e ≤ length s
+  run-inside = rw t (reach-le inOrdinary s end (u .spells .inside))
 
-  pub end-later : (n ≡ 0 → ⊥) → length s - (e + 2 * n) < length s - end
-  end-later z = let p = spells-more in omega (arith, t .later)
+  module _ (n : ℕ) (is : n ≡ length (simpleBytes (drop e s))) where
+    pub spells-more : Spells s i (e + 2 * n) (count + (e - end + n))
+    spells-more =
+        let h = u .spells .inside in
+        let f : n ≡ length (simpleBytes (drop (reach inOrdinary s end) s)) = rw t at is in
+        rw t
+        (spells-then s i end (reach inOrdinary s end + 2 * n) count (reach inOrdinary s end - end + n) (u .spells)
+        (spells-then s end (reach inOrdinary s end) (reach inOrdinary s end + 2 * n) (reach inOrdinary s end - end) n (spells-run s end h (u .rest))
+        (spells-simple s (reach inOrdinary s end) n (reach-le inOrdinary s end h) f)))
+
+    pub parting-more : Parting s i (e + 2 * n) (count + (e - end + n))
+    parting-more =
+        let o : Octets (drop e s) = rw t (boundary-rest s (reach inOrdinary s end) (run-boundary s end (u .spells .inside) (u .rest))) in
+        record { spells = spells-more; rest = rw (← is, drop-drop (2 * n) e s) at (simples-rest (drop e s) o) }
+
+    pub sum-fits : length s < 2 ^ 64 → Fits w64 (e - end + n)
+    sum-fits l = let p = spells-more in omega arith
+
+    pub total-fits : length s < 2 ^ 64 → Fits w64 (count + (e - end + n))
+    total-fits l = let p = spells-more in omega arith
+
+    pub double-fits : length s < 2 ^ 64 → Fits w64 (2 * n)
+    double-fits l = let p = spells-more in omega arith
+
+    pub end-fits : length s < 2 ^ 64 → Fits w64 (e + 2 * n)
+    end-fits l = let p = spells-more in omega arith
+
+    pub end-later : (n ≡ 0 → ⊥) → length s - (e + 2 * n) < length s - end
+    end-later z = let p = spells-more in omega (arith, run-later)

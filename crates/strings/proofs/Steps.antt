@@ -17,13 +17,12 @@ use Rattle.base.specs.Runs.{reach}
 use Rattle.base.specs.Blocks.{allPass, isNot}
 use Rattle.base.proofs.Tests.{and-false}
 use Rattle.base.proofs.Reaches.{rest-is, reach-step, reach-stop, reach-end}
-use Rattle.utf8.specs.Ascii.{isAscii}
 use Rattle.utf8.specs.State.{push, pushAll}
 use Rattle.utf8.specs.declared.state.State.{State}
 use Rattle.lexeme.specs.declared.Mode.{Mode}
 use Rattle.lexeme.specs.declared.Mode.the-variants.{Strict, Tolerant}
 use Rattle.strings.specs.Piece.{pieceOf}
-use Rattle.strings.specs.Plain.{isOrdinary, isPlain}
+use Rattle.strings.specs.Plain.{isOrdinary}
 use Rattle.strings.specs.Decode.{stepOf}
 use Rattle.strings.specs.declared.piece.Piece.{Piece}
 use Rattle.strings.specs.declared.piece.Piece.the-variants as piece
@@ -174,15 +173,3 @@ module _ (s : List ℕ) where
 
       pub all-others : not y ≡ false → (z : Bool) → z ≡ allPass (isNot 0x0A) s → z ≡ allPass isOrdinary s
       all-others h z k = rw (ordinary-all, ← e, not-false x f, ← g, not-false y h, ← k, and-true)
-
-  -- `all_plain`
-  plain-all : allPass isPlain s ≡ allPass isAscii s && allPass isOrdinary s
-  unfolding isPlain
-  plain-all = all-both isAscii isOrdinary s
-
-  module _ (x : Bool) (e : x ≡ allPass isAscii s) where
-    pub some-high : not x ≡ true → false ≡ allPass isPlain s
-    some-high f = rw (plain-all, ← e, not-true x f)
-
-    pub all-low : not x ≡ false → (y : Bool) → y ≡ allPass isOrdinary s → y ≡ allPass isPlain s
-    all-low f y g = rw (plain-all, ← e, not-false x f, ← g)

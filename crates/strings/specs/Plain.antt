@@ -1,13 +1,12 @@
 -- Parts of a string literal that are read at once: bytes that stand for themselves, for `lex_string` pushes every byte that is no quote, newline
 -- or backslash, and escapes of one letter.
 use mathlib.Core.Path.{_≡_}
-use mathlib.Core.Bool.{Bool, true, not, _&&_}
+use mathlib.Core.Bool.{Bool, not, _&&_}
 use mathlib.Core.List.{List, [], _∷_}
-use Prim.Native.Nat.{ℕ, _+_, _-_, _≤_}
-use lib.Dec.{ltb, eqb}
-use lib.ListN.{length, take, drop}
+use Prim.Native.Nat.{ℕ, _+_, _≤_}
+use lib.Dec.{eqb}
+use lib.ListN.{length, drop}
 use Rattle.base.specs.Choice.{pick}
-use Rattle.base.specs.Blocks.{allPass}
 use Rattle.utf8.specs.Grammar.{Octets}
 use Rattle.lexeme.specs.declared.Mode.{Mode}
 use Rattle.strings.specs.Piece.{simpleOf}
@@ -17,20 +16,9 @@ use Rattle.strings.specs.Decode.{prepend, decode}
 unfoldable pub isOrdinary : ℕ → Bool
 isOrdinary b = (not (eqb b 0x22) && not (eqb b 0x0A)) && not (eqb b 0x5C)
 
--- and a character of its own
-unfoldable pub isPlain : ℕ → Bool
-isPlain b = ltb b 0x80 && isOrdinary b
-
--- the first as the test of a run; what follows the byte does not count
+-- the same as the test of a run; what follows the byte does not count
 abbrev pub inOrdinary : ℕ → ℕ → Bool
 inOrdinary a b = isOrdinary a
-
--- the bytes from i to r are whole characters that stand for themselves
-pub record Text (s : List ℕ) (i r : ℕ) : Type 0 where
-  pub later : i ≤ r
-  pub inside : r ≤ length s
-  pub ordinary : allPass isOrdinary (take (r - i) (drop i s)) ≡ true
-  pub whole : Octets (take (r - i) (drop i s))
 
 -- the byte that a backslash and a letter stand for, and 0 where two bytes are no such escape
 unfoldable pub simpleAt : ℕ → ℕ → ℕ

@@ -3,6 +3,7 @@ ghost use mathlib.Core.Path.{_≡_};
 ghost use Prim.Native.Nat.{_+_, _≤_, _<_};
 ghost use lib.ListN.{length};
 ghost use lib.Seq.{sets};
+ghost use Rattle.utf8.specs.Grammar.{Octets};
 ghost use Rattle.lexeme.specs.declared.Mode.the-variants as M;
 ghost use Rattle.strings.specs.Decode.{letterDetail};
 ghost use Rattle.strings.specs.Literal.{literalOf, endReason, endDetail, endOf, endNotes, lexString};
@@ -89,7 +90,7 @@ fn end_reports(end: End) -> usize
 }
 
 fn lex_strict(s: &[u8]) -> Lexeme
-    requires { ⌜ 0 < length (now s) ⌝ }
+    requires { ⌜ (0 < length (now s)) × Octets (now s) ⌝ }
     ensures { λ r. ⌜ r ≡ lexString M.Strict (now (s .entry)) ⌝ }
 {
     let m = measure_literal(s, Mode::Strict);
@@ -108,7 +109,7 @@ fn lex_strict(s: &[u8]) -> Lexeme
 }
 
 fn lex_tolerant(s: &[u8]) -> Lexeme
-    requires { ⌜ 0 < length (now s) ⌝ }
+    requires { ⌜ (0 < length (now s)) × Octets (now s) ⌝ }
     ensures { λ r. ⌜ r ≡ lexString M.Tolerant (now (s .entry)) ⌝ }
 {
     let m = measure_literal(s, Mode::Tolerant);
@@ -136,7 +137,7 @@ fn lex_tolerant(s: &[u8]) -> Lexeme
 
 // The string literal at the front of a slice.
 pub fn lex_string(s: &[u8], mode: Mode) -> Lexeme
-    requires { ⌜ 0 < length (now s) ⌝ }
+    requires { ⌜ (0 < length (now s)) × Octets (now s) ⌝ }
     ensures { λ r. ⌜ r ≡ lexString mode (now (s .entry)) ⌝ }
 {
     match mode {

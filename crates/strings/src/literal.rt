@@ -8,21 +8,23 @@ ghost use lib.ListN.{length, take, drop};
 ghost use lib.Seq.{sets};
 ghost use Rattle.base.specs.Choice.{pick};
 ghost use Rattle.base.specs.Bytes.{byte};
-ghost use Rattle.base.specs.Runs.{reach};
+ghost use Rattle.base.specs.Runs.{run, reach};
 ghost use Rattle.base.specs.Blocks.{allPass, Ahead};
+ghost use Rattle.utf8.specs.Grammar.{Octets};
 ghost use Rattle.utf8.specs.State.{fresh, pushAll};
 ghost use Rattle.strings.specs.Piece.{pieceOf};
-ghost use Rattle.strings.specs.Plain.{isOrdinary, isPlain, inOrdinary, Text, simpleAt, simpleBytes, Spells};
+ghost use Rattle.strings.specs.Plain.{isOrdinary, inOrdinary, simpleAt, simpleBytes, Spells};
 ghost use Rattle.strings.specs.Decode.{stepOf, measured};
 ghost use Rattle.strings.specs.Literal.{literalOf};
 use crate::digit::simple;
 use crate::piece::Piece;
 use crate::piece::next_piece;
 use base::find::BLOCK;
+use base::find::WINDOW;
+use base::find::earlier;
 use base::find::lacks;
 use lexeme::Mode;
-use utf8::ascii::all_ascii;
-use utf8::character::char_size;
+use utf8::check::is_inside;
 use utf8::state::State;
 
 // How a literal ends.
@@ -187,13 +189,6 @@ fn is_ordinary(b: u8) -> bool
     (b != b'"') & (b != b'\n') & (b != b'\\')
 }
 
-// A plain byte: it stands for itself and is a character of its own.
-fn is_plain(b: u8) -> bool
-    ensures { λ r. ⌜ r ≡ isPlain b ⌝ }
-{
-    (b < 0x80) & is_ordinary(b)
-}
-
 // Whether all bytes stand for themselves. Each test is a loop of its own, which tests several bytes by one instruction.
 fn all_ordinary(s: &[u8]) -> bool
     ensures { λ r. ⌜ r ≡ allPass isOrdinary (now (s .entry)) ⌝ }
@@ -207,18 +202,35 @@ fn all_ordinary(s: &[u8]) -> bool
     lacks(s, b'\n')
 }
 
-// Whether all bytes are plain.
-fn all_plain(s: &[u8]) -> bool
-    ensures { λ r. ⌜ r ≡ allPass isPlain (now (s .entry)) ⌝ }
+// How many bytes at the front of a window stand for themselves.
+fn ordinary_count(s: &[u8]) -> usize
+    requires { ⌜ length (now s) ≤ 255 ⌝ }
+    ensures { λ r. ⌜ r ≡ run inOrdinary (now (s .entry)) ⌝ }
 {
-    if !all_ascii(s) {
-        return false;
+    let none = s.len() as u8;
+    let mut m = none;
+    let mut j = 0;
+    while j < none {
+        m = earlier(m, is_ordinary(s[j as usize]), none, j);
+        j += 1;
     }
-    all_ordinary(s)
+    m as usize
 }
 
-// The end of the blocks from i on of bytes that stand for themselves. Where escapes follow each other there are none, and the first byte says
-// it.
+// The end of the bytes in the window at i that stand for themselves, where there is a whole one.
+fn past_window(s: &[u8], i: usize) -> usize
+    requires { ⌜ i ≤ length (now s) ⌝ }
+    ensures { λ r. ⌜ Ahead inOrdinary (now (s .entry)) i r ⌝ }
+{
+    if s.len() - i < WINDOW {
+        return i;
+    }
+    let end = i + WINDOW;
+    i + ordinary_count(&s[i..end])
+}
+
+// The end of the blocks from i on of bytes that stand for themselves, and of such bytes in the window after them. Where escapes follow each
+// other there are none, and the first byte says it.
 fn past_ordinary(s: &[u8], i: usize) -> usize
     requires { ⌜ i ≤ length (now s) ⌝ }
     ensures { λ r. ⌜ Ahead inOrdinary (now (s .entry)) i r ⌝ }
@@ -230,7 +242,7 @@ fn past_ordinary(s: &[u8], i: usize) -> usize
     while BLOCK <= s.len() - e {
         let end = e + BLOCK;
         if !all_ordinary(&s[e..end]) {
-            return e;
+            return past_window(s, e);
         }
         e = end;
     }
@@ -249,62 +261,6 @@ pub fn ordinary_end(s: &[u8], i: usize) -> usize
         } else {
             return e;
         }
-    }
-    e
-}
-
-// The end of the plain blocks from i on.
-fn past_plain(s: &[u8], i: usize) -> usize
-    requires { ⌜ i ≤ length (now s) ⌝ }
-    ensures { λ r. ⌜ Text (now (s .entry)) i r ⌝ }
-{
-    let mut e = i;
-    while BLOCK <= s.len() - e {
-        let end = e + BLOCK;
-        if !all_plain(&s[e..end]) {
-            return e;
-        }
-        e = end;
-    }
-    e
-}
-
-// The end of the plain bytes from i on.
-fn plain_end(s: &[u8], i: usize) -> usize
-    requires { ⌜ i ≤ length (now s) ⌝ }
-    ensures { λ r. ⌜ Text (now (s .entry)) i r ⌝ }
-{
-    let mut e = past_plain(s, i);
-    while e < s.len() {
-        if is_plain(s[e]) {
-            e += 1;
-        } else {
-            return e;
-        }
-    }
-    e
-}
-
-// The end of the characters from i on that stand for themselves.
-fn text_end(s: &[u8], i: usize) -> usize
-    requires { ⌜ i ≤ length (now s) ⌝ }
-    ensures { λ r. ⌜ Text (now (s .entry)) i r ⌝ }
-{
-    let mut e = i;
-    while e < s.len() {
-        let b = s[e];
-        if is_plain(b) {
-            e = plain_end(s, e + 1);
-            continue;
-        }
-        if b < 0x80 {
-            return e;
-        }
-        let n = char_size(&s[e..]);
-        if n == 0 {
-            return e;
-        }
-        e += n;
     }
     e
 }
@@ -357,19 +313,19 @@ pub fn put_simple(s: &[u8], i: usize, out: &mut [u8], place: usize) -> usize
     n
 }
 
-// The part from i on of characters that stand for themselves and escapes of one letter. These leave no character begun; where one has, the
-// part is empty.
+// The part from i on of characters that stand for themselves and escapes of one letter. These leave no character begun; where one has, in
+// what is decoded or in the text, the part is empty.
 fn part_at(s: &[u8], i: usize, need: u8) -> Part
-    requires { ⌜ i ≤ length (now s) ⌝ }
+    requires { ⌜ (i ≤ length (now s)) × Octets (now s) ⌝ }
     ensures { λ r. ⌜ Spells (now (s .entry)) i (r .end) (r .count) × ((need ≡ 0 → ⊥) → r .count ≡ 0) ⌝ }
 {
     let mut end = i;
     let mut count = 0;
-    if need != 0 {
+    if (need != 0) | is_inside(s, i) {
         return Part { end, count };
     }
     loop {
-        let e = text_end(s, end);
+        let e = ordinary_end(s, end);
         let n = simple_count(s, e);
         count += e - end + n;
         end = e + 2 * n;
@@ -381,7 +337,7 @@ fn part_at(s: &[u8], i: usize, need: u8) -> Part
 
 // Measures the literal whose opening quote is the first byte.
 pub fn measure_literal(s: &[u8], mode: Mode) -> Measure
-    requires { ⌜ 0 < length (now s) ⌝ }
+    requires { ⌜ (0 < length (now s)) × Octets (now s) ⌝ }
     ensures { λ r. ⌜ r ≡ measured 0 0 fresh (literalOf mode (now (s .entry))) ⌝ }
 {
     let mut i = 1;

@@ -1,5 +1,5 @@
 -- A state that wants nothing is the one between characters, and ASCII bytes leave it so. By induction on the list. Assumes nothing.
-use mathlib.Core.Path.{_≡_, refl, ap}
+use mathlib.Core.Path.{_≡_, refl}
 use mathlib.Core.Bool.{Bool, true, false}
 use mathlib.Core.List.{List, [], _∷_}
 use Prim.Native.Nat.{ℕ, _-_, _<_, zero-le}

@@ -1,11 +1,13 @@
-// Runs of ASCII bytes, which are whole characters: a block of them is tested at once.
+// Runs of ASCII bytes, which are whole characters: a block of bytes is tested at once, and a window is searched at once.
 ghost use mathlib.Core.Path.{_≡_};
 ghost use Prim.Native.Nat.{_≤_};
 ghost use lib.ListN.{length};
-ghost use Rattle.base.specs.Runs.{reach};
+ghost use Rattle.base.specs.Runs.{run, reach};
 ghost use Rattle.base.specs.Blocks.{allPass, Ahead};
 ghost use Rattle.utf8.specs.Ascii.{isAscii, ascii};
 use base::find::BLOCK;
+use base::find::WINDOW;
+use base::find::earlier;
 
 // Whether all bytes are ASCII. It looks at every byte, so that several can be tested by one instruction.
 pub fn all_ascii(s: &[u8]) -> bool
@@ -20,7 +22,34 @@ pub fn all_ascii(s: &[u8]) -> bool
     all
 }
 
-// The end of the ASCII blocks from `at` on.
+// How many bytes at the front of a window are ASCII.
+fn ascii_count(s: &[u8]) -> usize
+    requires { ⌜ length (now s) ≤ 255 ⌝ }
+    ensures { λ r. ⌜ r ≡ run ascii (now (s .entry)) ⌝ }
+{
+    let none = s.len() as u8;
+    let mut m = none;
+    let mut j = 0;
+    while j < none {
+        m = earlier(m, s[j as usize] < 0x80, none, j);
+        j += 1;
+    }
+    m as usize
+}
+
+// The end of the ASCII bytes in the window at `at`, where there is a whole one.
+fn past_window(text: &[u8], at: usize) -> usize
+    requires { ⌜ at ≤ length (now text) ⌝ }
+    ensures { λ r. ⌜ Ahead ascii (now (text .entry)) at r ⌝ }
+{
+    if text.len() - at < WINDOW {
+        return at;
+    }
+    let end = at + WINDOW;
+    at + ascii_count(&text[at..end])
+}
+
+// The end of the ASCII blocks from `at` on, and of the ASCII bytes in the window after them.
 fn past_blocks(text: &[u8], at: usize) -> usize
     requires { ⌜ at ≤ length (now text) ⌝ }
     ensures { λ r. ⌜ Ahead ascii (now (text .entry)) at r ⌝ }
@@ -29,7 +58,7 @@ fn past_blocks(text: &[u8], at: usize) -> usize
     while BLOCK <= text.len() - i {
         let end = i + BLOCK;
         if !all_ascii(&text[i..end]) {
-            return i;
+            return past_window(text, i);
         }
         i = end;
     }

@@ -1,6 +1,6 @@
 -- `copy_bytes` leaves the stores of the copied bytes: what is left to copy, stored from here on, makes the whole. Assumes nothing.
 use mathlib.Core.Path.{_≡_, refl, sym, _∙_}
-use Prim.Native.Nat.{_+_, _≤_, _-_}
+use Prim.Native.Nat.{_≤_, _-_}
 use native.Mathlib.Omega.{arith}
 use lib.ListN.{length, drop, take, length-set}
 use lib.Seq.{sets}

@@ -1,6 +1,6 @@
 -- `store` leaves the stores of the whole list: what is left to store, stored from here on, makes the whole. Assumes nothing.
 use mathlib.Core.Path.{_≡_, refl, sym, _∙_}
-use Prim.Native.Nat.{_+_, _≤_, _-_}
+use Prim.Native.Nat.{_≤_, _-_}
 use native.Mathlib.Omega.{arith}
 use lib.ListN.{length, length-set, getD}
 use lib.Seq.{sets}

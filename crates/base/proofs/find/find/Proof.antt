@@ -20,8 +20,11 @@ abbrev μ-loop : tie.MeasureT-loop
 past-blocks-requires : tie.Need-past-blocks-requires Inv-loop μ-loop
 past-blocks-requires c κs = search needs
 
+past-last-requires : tie.Need-past-last-requires Inv-loop μ-loop
+past-last-requires c κs = search needs
+
 loop-holds : tie.Need-loop-holds Inv-loop μ-loop
-loop-holds c = c .past-blocks .ensures .same
+loop-holds c = c .past-last .ensures .same ∙ c .before .past-blocks .ensures .same
 
 shared-slice-read-if1 : tie.Need-shared-slice-read-if1 Inv-loop μ-loop
 shared-slice-read-if1 c = search needs
@@ -52,6 +55,7 @@ find-spec =
     Inv-loop
     μ-loop
     past-blocks-requires
+    past-last-requires
     loop-holds
     shared-slice-read-if1
     returns

@@ -1,6 +1,6 @@
 -- `lex_by` is `lexBy`: each arm calls the lexer of its class. Assumes nothing.
 use Rattle.lexer.specs.Lexer.{lexBy}
-use Rattle.lexer.proofs.Knows.{triple-long}
+use Rattle.lexer.proofs.Knows.{triple-long, quote-first}
 use borrow.Author.Needs.{needs}
 use Rattle.lexer.proofs.lex.lex_by.Statement.{statement}
 use Rattle.lexer.proofs.lex.lex_by.Tie as tie
@@ -35,7 +35,9 @@ enum-told-5 : tie.Need-enum-told-5
 enum-told-5 c = search needs
 
 lex-string-requires : tie.Need-lex-string-requires
-lex-string-requires c κs = search needs
+lex-string-requires c κs =
+    let a = c .before .before .before in
+    (a .pre .0, a .pre .2 (quote-first (a .args .s .now) (a .args .class) (a .pre .1) (c .enum-told5 .given .1)))
 
 enum-told-6 : tie.Need-enum-told-6
 enum-told-6 c = search needs

@@ -32,7 +32,7 @@ unfolding classAt
 class-is c = rw (← c .before .before .peek .ensures, ← c .before .peek2 .ensures) (c .classify .ensures)
 
 lex-by-requires : tie.Need-lex-by-requires
-lex-by-requires c κs = (omega (arith, c .before .before .before .before .if1 .left), class-is c)
+lex-by-requires c κs = (omega (arith, c .before .before .before .before .if1 .left), class-is c, c .before .before .before .before .before .before .pre)
 
 returns-2 : tie.Need-returns-2
 unfolding lexemeOf

@@ -16,13 +16,13 @@ sub-gap : tie.Need-sub-gap
 sub-gap c =
     let n = c .before in
     let a = n .before .before in
-    to-start (a .args .mode) (a .args .limit) (a .args .text .now) (a .args .place) (a .pre) (n .next-lexeme .result) (n .next-lexeme .ensures) .forward
+    to-start (a .args .mode) (a .args .limit) (a .args .text .now) (a .args .place) (a .pre .0) (n .next-lexeme .result) (n .next-lexeme .ensures) .forward
 
 add-column : tie.Need-add-column
 add-column c =
     let n = c .before .before in
     let a = n .before .before in
-    let w = to-start (a .args .mode) (a .args .limit) (a .args .text .now) (a .args .place) (a .pre) (n .next-lexeme .result) (n .next-lexeme .ensures) in
+    let w = to-start (a .args .mode) (a .args .limit) (a .args .text .now) (a .args .place) (a .pre .0) (n .next-lexeme .result) (n .next-lexeme .ensures) in
     let b = walk-bounded _ _ _ w in
     record { fits = omega (arith, b .column, w .forward, w .inside, w .short) }
 
@@ -31,23 +31,23 @@ end-place-requires c κs =
     let n = c .before .before in
     let a = n .before .before in
     record {
-      walkable = to-end (a .args .mode) (a .args .limit) (a .args .text .now) (a .args .place) (a .pre) (n .next-lexeme .result) (n .next-lexeme .ensures) _ (start-along (a .args .mode) (a .args .limit) (a .args .text .now) (a .args .place) (a .pre) (n .next-lexeme .result) (n .next-lexeme .ensures));
-      flat = end-flat (a .args .mode) (a .args .limit) (a .args .text .now) (a .args .place) (a .pre) (n .next-lexeme .result) (n .next-lexeme .ensures);
+      walkable = to-end (a .args .mode) (a .args .limit) (a .args .text .now) (a .args .place) (a .pre .0) (n .next-lexeme .result) (n .next-lexeme .ensures) _ (start-along (a .args .mode) (a .args .limit) (a .args .text .now) (a .args .place) (a .pre .0) (n .next-lexeme .result) (n .next-lexeme .ensures));
+      flat = end-flat (a .args .mode) (a .args .limit) (a .args .text .now) (a .args .place) (a .pre .0) (n .next-lexeme .result) (n .next-lexeme .ensures);
     }
 
 precision-at-requires : tie.Need-precision-at-requires
 precision-at-requires c κs =
     let n = c .before .before .before in
     let a = n .before .before in
-    let b = bounds-of (a .args .mode) (a .args .limit) (a .args .text .now) (a .args .place .offset) (a .pre .inside) (n .next-lexeme .result) (n .next-lexeme .ensures) in
-    omega (arith, b .inside, b .precision-in, a .pre .short)
+    let b = bounds-of (a .args .mode) (a .args .limit) (a .args .text .now) (a .args .place .offset) (a .pre .0 .inside) (n .next-lexeme .result) (n .next-lexeme .ensures) in
+    omega (arith, b .inside, b .precision-in, a .pre .0 .short)
 
 add-value : tie.Need-add-value
 add-value c =
     let n = c .before .before .before .before .before in
     let a = n .before .before in
-    let b = bounds-of (a .args .mode) (a .args .limit) (a .args .text .now) (a .args .place .offset) (a .pre .inside) (n .next-lexeme .result) (n .next-lexeme .ensures) in
-    record { fits = omega (arith, b .inside, b .value-in, a .pre .short) }
+    let b = bounds-of (a .args .mode) (a .args .limit) (a .args .text .now) (a .args .place .offset) (a .pre .0 .inside) (n .next-lexeme .result) (n .next-lexeme .ensures) in
+    record { fits = omega (arith, b .inside, b .value-in, a .pre .0 .short) }
 
 returns : tie.Need-returns
 returns c =
@@ -55,7 +55,7 @@ returns c =
     let a = n .before .before in
     let f : SFits w64 (n .next-lexeme .result .lexeme .nanos) = record { sfits = c .struct-told .given .1 .0 .1 .1 .1 .1 .1 .1 .1 .1 .1 .1 .0 .1 } in
     rw (toZ-ofZ w64 (n .next-lexeme .result .lexeme .nanos) f)
-    (token-is (a .args .mode) (a .args .limit) (a .args .text .now) (a .args .place) (a .pre) (n .next-lexeme .result) (n .next-lexeme .ensures) _ (c .before .before .before .end-place .result) (c .before .before .precision-at .result) (start-along (a .args .mode) (a .args .limit) (a .args .text .now) (a .args .place) (a .pre) (n .next-lexeme .result) (n .next-lexeme .ensures)) (c .before .before .before .end-place .ensures) (c .before .before .precision-at .ensures))
+    (token-is (a .args .mode) (a .args .limit) (a .args .text .now) (a .args .place) (a .pre .0) (n .next-lexeme .result) (n .next-lexeme .ensures) _ (c .before .before .before .end-place .result) (c .before .before .precision-at .result) (start-along (a .args .mode) (a .args .limit) (a .args .text .now) (a .args .place) (a .pre .0) (n .next-lexeme .result) (n .next-lexeme .ensures)) (c .before .before .before .end-place .ensures) (c .before .before .precision-at .ensures))
 
 pub next-token-spec : {M : Type 1} → statement M
 next-token-spec =

@@ -1,6 +1,5 @@
 -- `string_size` chooses as the definition does. Assumes nothing.
-use mathlib.Core.Path.{sym, _∙_}
-use borrow.Author.Tests.{eq-eqb, ne-eqb}
+use borrow.Author.Tests.{ne-eqb}
 use Rattle.lexer.specs.Token.{stringSize}
 use borrow.Author.Needs.{needs}
 use Rattle.lexer.proofs.next.string_size.Statement.{statement}

@@ -1,6 +1,5 @@
 -- `put_at_start` stores the numbers of one report at the token's start. Assumes nothing.
-use mathlib.Core.Path.{_≡_, sym, ap, _∙_}
-use native.Mathlib.Omega.{arith}
+use mathlib.Core.Path.{sym, ap, _∙_}
 use lib.Seq.{sets}
 use Rattle.lexer.proofs.Puts.{start-numbers, start-fits}
 use borrow.Author.Needs.{needs}

@@ -1,5 +1,5 @@
 -- `put_string` lays `stringOf`: three quotes choose the writer of triple-quoted strings. Assumes nothing.
-use mathlib.Core.Path.{_≡_, sym, ap, _∙_}
+use mathlib.Core.Path.{sym, ap, _∙_}
 use native.Mathlib.Omega.{arith}
 use lib.ListN.{length}
 use lib.Seq.{sets}

@@ -3,7 +3,7 @@ use mathlib.Core.Path.{sym, _∙_}
 use native.Mathlib.Omega.{arith}
 use borrow.Author.Needs.{needs}
 use borrow.Author.Tests.{not-true, not-false}
-use Rattle.reading.proofs.Judges.{judged}
+use Rattle.reading.proofs.Judges.{judged, well-octets}
 use Rattle.reading.proofs.Ones.{too-long, not-utf8, no-place, walkable, tokens-short, few, strings-short, reports-short, record-room, string-room, notes-room, done}
 use Rattle.reading.proofs.one.read_token.Statement.{statement}
 use Rattle.reading.proofs.one.read_token.Tie as tie
@@ -53,7 +53,7 @@ next-token-requires : tie.Need-next-token-requires
 next-token-requires c κs =
     let a = c .before .before .before .before .before .before .before .before .args in
     let f = judged (a .text .now) (c .before .before .before .before .before .judge .result) (c .before .before .before .before .before .judge .ensures) .fit (c .before .before .before .enum-told2 .given .1) in
-    walkable (a .mode) (a .limit) (a .text .now) (a .place) (a .tokens .now) (a .strings .now) (a .reports .now) (f .0) (f .1) (sym (c .before .before .is-place .ensures) ∙ not-false _ (c .before .if1 .left))
+    (walkable (a .mode) (a .limit) (a .text .now) (a .place) (a .tokens .now) (a .strings .now) (a .reports .now) (f .0) (f .1) (sym (c .before .before .is-place .ensures) ∙ not-false _ (c .before .if1 .left)), well-octets (a .text .now) (f .1))
 
 string-size-requires : tie.Need-string-size-requires
 string-size-requires c κs = search needs

@@ -1,5 +1,5 @@
 -- `put_notes` writes the reports of a token that counts some; any other has none. Assumes nothing.
-use mathlib.Core.Path.{_≡_, _∙_}
+use mathlib.Core.Path.{_∙_}
 use native.Mathlib.Omega.{arith}
 use lib.ListN.{drop}
 use Rattle.lexeme.specs.Reports.{notesNumbers}

@@ -1,7 +1,7 @@
 -- `put_value` writes the string of a token that counts some bytes; any other has none. Assumes nothing.
-use mathlib.Core.Path.{_≡_, sym, _∙_}
+use mathlib.Core.Path.{sym, _∙_}
 use native.Mathlib.Omega.{arith}
-use lib.ListN.{length, drop}
+use lib.ListN.{drop}
 use Rattle.base.proofs.Reaches.{rest-is}
 use Rattle.lexer.specs.Lexer.{stringOf}
 use Rattle.base.proofs.Stores.{empty}

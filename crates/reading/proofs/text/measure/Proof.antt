@@ -18,13 +18,13 @@ loop-holds : tie.Need-loop-holds Inv-loop μ-loop
 loop-holds c = measuring-start _ _ _
 
 next-lexeme-requires : tie.Need-next-lexeme-requires Inv-loop μ-loop
-next-lexeme-requires c κs = c .loop .inv .inside
+next-lexeme-requires c κs = (c .loop .inv .inside, c .before .before .pre .1)
 
 add-tokens : tie.Need-add-tokens Inv-loop μ-loop
 add-tokens c =
     let n = c .before in
     let w = n .before .loop .inv in
-    record { fits = omega (arith, measuring-few w (n .next-lexeme .ensures), n .before .before .before .pre) }
+    record { fits = omega (arith, measuring-few w (n .next-lexeme .ensures), n .before .before .before .pre .0) }
 
 number-requires : tie.Need-number-requires Inv-loop μ-loop
 number-requires c κs = search needs
@@ -42,19 +42,19 @@ add-strings : tie.Need-add-strings Inv-loop μ-loop
 add-strings c =
     let n = c .before .before .before .before in
     let w = n .before .loop .inv in
-    record { fits = omega (arith, c .string-size .ensures, measuring-few w (n .next-lexeme .ensures), n .before .before .before .pre) }
+    record { fits = omega (arith, c .string-size .ensures, measuring-few w (n .next-lexeme .ensures), n .before .before .before .pre .0) }
 
 add-reports : tie.Need-add-reports Inv-loop μ-loop
 add-reports c =
     let n = c .before .before .before .before .before in
     let w = n .before .loop .inv in
-    record { fits = omega (arith, measuring-few w (n .next-lexeme .ensures), n .before .before .before .pre) }
+    record { fits = omega (arith, measuring-few w (n .next-lexeme .ensures), n .before .before .before .pre .0) }
 
 add-at : tie.Need-add-at Inv-loop μ-loop
 add-at c =
     let n = c .before .before .before .before .before .before in
     let w = n .before .loop .inv in
-    record { fits = omega (arith, measuring-few w (n .next-lexeme .ensures), n .before .before .before .pre) }
+    record { fits = omega (arith, measuring-few w (n .next-lexeme .ensures), n .before .before .before .pre .0) }
 
 loop-less : tie.Need-loop-less Inv-loop μ-loop
 loop-less c =

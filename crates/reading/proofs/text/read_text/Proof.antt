@@ -8,7 +8,7 @@ use Rattle.limits.specs.Limits.{maxMessageSize}
 use Rattle.utf8.specs.Check.{checkOf}
 use Rattle.utf8.specs.declared.check.Verdict.the-variants.{WellFormed}
 use borrow.Author.Needs.{needs}
-use Rattle.reading.proofs.Judges.{judged}
+use Rattle.reading.proofs.Judges.{judged, well-octets}
 use Rattle.reading.proofs.Fits.{suffice-room}
 use Rattle.reading.proofs.Wholes.{too-long, not-utf8, few, tokens-short, strings-short, reports-short, room, done, done-room}
 use Rattle.reading.proofs.text.read_text.Statement.{statement}
@@ -49,7 +49,7 @@ write-requires c κs =
     let d = c .before .before .before .before .before in
     let a = d .before .before .before .before .before .args in
     let f = fit d in
-    suffice-room (a .mode) (a .limit) (a .text .now) (length (a .tokens .now)) (length (a .strings .now)) (length (a .reports .now)) (f .0) (sym (c .before .before .before .before .suffice .ensures) ∙ c .before .before .before .if1 .taken)
+    (suffice-room (a .mode) (a .limit) (a .text .now) (length (a .tokens .now)) (length (a .strings .now)) (length (a .reports .now)) (f .0) (sym (c .before .before .before .before .suffice .ensures) ∙ c .before .before .before .if1 .taken), well-octets (a .text .now) (f .1))
 
 same-length : tie.Need-same-length
 same-length c = search needs
@@ -69,7 +69,7 @@ returns-3 c =
     done-room (a .mode) (a .limit) (a .text .now) (a .tokens .now) (a .strings .now) (a .reports .now) (f .0) (f .1) (w .0) (suffice-room (a .mode) (a .limit) (a .text .now) (length (a .tokens .now)) (length (a .strings .now)) (length (a .reports .now)) (f .0) (sym (c .before .before .before .before .before .before .before .before .before .suffice .ensures) ∙ c .before .before .before .before .before .before .before .before .if1 .taken)) (w .1)
 
 measure-requires : tie.Need-measure-requires
-measure-requires c κs = fit (c .before .before) .0
+measure-requires c κs = let f = fit (c .before .before) in (f .0, well-octets _ (f .1))
 
 mul-if2 : tie.Need-mul-if2
 mul-if2 c =
@@ -111,7 +111,7 @@ write-requires-2 c κs =
     let d = c .before .before .before .before .before .before .before .before .before in
     let a = d .before .before .before .before .before .args in
     let f = fit d in
-    room (a .mode) (a .limit) (a .text .now) (a .tokens .now) (a .strings .now) (a .reports .now) (f .0) (f .1) (c .before .before .before .before .before .before .measure .ensures) (c .before .before .before .before .before .if2 .left) (c .before .before .before .before .if3 .left) (c .before .before .before .if4 .left)
+    (room (a .mode) (a .limit) (a .text .now) (a .tokens .now) (a .strings .now) (a .reports .now) (f .0) (f .1) (c .before .before .before .before .before .before .measure .ensures) (c .before .before .before .before .before .if2 .left) (c .before .before .before .before .if3 .left) (c .before .before .before .if4 .left), well-octets (a .text .now) (f .1))
 
 same-length-4 : tie.Need-same-length-4
 same-length-4 c = search needs

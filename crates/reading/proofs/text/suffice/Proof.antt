@@ -1,5 +1,4 @@
 -- `suffice` meets its contract: three tests. Assumes nothing.
-use mathlib.Core.Path.{_≡_}
 use Prim.Native.Nat.{ℕ, _≤_}
 use native.Mathlib.Omega.{arith}
 use borrow.Author.Needs.{needs}

@@ -20,10 +20,10 @@ first-requires c κs = search needs
 loop-holds : tie.Need-loop-holds Inv-loop μ-loop
 loop-holds c =
     let a = c .before .before .before in
-    passing-start (a .args .mode) (a .args .limit) (a .args .text .now) (a .args .tokens .now) (a .args .strings .now) (a .args .reports .now) (c .first .result) (c .first .ensures) (a .pre)
+    passing-start (a .args .mode) (a .args .limit) (a .args .text .now) (a .args .tokens .now) (a .args .strings .now) (a .args .reports .now) (c .first .result) (c .first .ensures) (a .pre .0)
 
 next-token-requires : tie.Need-next-token-requires Inv-loop μ-loop
-next-token-requires c κs = c .loop .inv .writing .walkable
+next-token-requires c κs = (c .loop .inv .writing .walkable, c .before .before .before .before .pre .1)
 
 mul-i : tie.Need-mul-i Inv-loop μ-loop
 mul-i c =

@@ -1,8 +1,8 @@
--- `past_ordinary` meets its contract: a block of bytes that stand for themselves stays in the run. Assumes nothing.
+-- `past_ordinary` meets its contract: a block of bytes that stand for themselves stays in the run, and so do those of the window after them. Assumes nothing.
 use Prim.Native.Nat.{_-_}
 use lib.ListN.{length}
 use Rattle.base.specs.Blocks.{Ahead}
-use Rattle.base.proofs.Blocks.{ahead-first, ahead-block}
+use Rattle.base.proofs.Blocks.{ahead-first, ahead-then, ahead-block}
 use Rattle.strings.specs.Plain.{isOrdinary, inOrdinary}
 use borrow.Author.Tests.{not-false}
 use borrow.Author.Needs.{needs}
@@ -45,8 +45,11 @@ part-all-ordinary-end c = search needs
 all-ordinary-requires : tie.Need-all-ordinary-requires Inv-loop μ-loop
 all-ordinary-requires c κs = search needs
 
+past-window-requires : tie.Need-past-window-requires Inv-loop μ-loop
+past-window-requires c κs = search needs
+
 returns-2 : tie.Need-returns-2 Inv-loop μ-loop
-returns-2 c = search needs
+returns-2 c = search ahead-then
 
 loop-less : tie.Need-loop-less Inv-loop μ-loop
 loop-less c = search needs
@@ -75,6 +78,7 @@ past-ordinary-spec =
     part-all-ordinary-start
     part-all-ordinary-end
     all-ordinary-requires
+    past-window-requires
     returns-2
     loop-less
     loop-again

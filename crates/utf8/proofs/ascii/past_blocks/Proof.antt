@@ -1,8 +1,8 @@
--- `past_blocks` meets its contract: a block of ASCII bytes stays in the run. Assumes nothing.
+-- `past_blocks` meets its contract: a block of ASCII bytes stays in the run, and so do those of the window after them. Assumes nothing.
 use Prim.Native.Nat.{_-_}
 use lib.ListN.{length}
 use Rattle.base.specs.Blocks.{Ahead}
-use Rattle.base.proofs.Blocks.{ahead-first, ahead-block}
+use Rattle.base.proofs.Blocks.{ahead-first, ahead-then, ahead-block}
 use Rattle.utf8.specs.Ascii.{isAscii, ascii}
 use borrow.Author.Needs.{needs}
 use borrow.Author.Tests.{not-false}
@@ -36,8 +36,11 @@ part-all-ascii-end c = search needs
 all-ascii-requires : tie.Need-all-ascii-requires Inv-loop μ-loop
 all-ascii-requires c κs = search needs
 
+past-window-requires : tie.Need-past-window-requires Inv-loop μ-loop
+past-window-requires c κs = search needs
+
 returns : tie.Need-returns Inv-loop μ-loop
-returns c = search needs
+returns c = search ahead-then
 
 loop-less : tie.Need-loop-less Inv-loop μ-loop
 loop-less c = search needs
@@ -63,6 +66,7 @@ past-blocks-spec =
     part-all-ascii-start
     part-all-ascii-end
     all-ascii-requires
+    past-window-requires
     returns
     loop-less
     loop-again

@@ -9,13 +9,15 @@ use native.Mathlib.Omega.{arith}
 use borrow.Author.Tests.{eqb-true, eqb-false}
 use lib.Dec.{eqb, lit≤}
 use lib.ListN.{length, drop, take, length-drop, length-append}
-use lib.Seq.{sets, length-sets, length-take-le}
+use lib.Seq.{sets, length-sets, length-take-le, drop-cons}
 use mir.Syntax.{w64}
 use mir.Val.{Fits}
 use Rattle.base.specs.Choice.{pick}
+use Rattle.base.specs.Bytes.{byte}
 use Rattle.base.specs.Runs.{reach}
 use Rattle.base.proofs.Reaches.{reach-le, reach-ge}
 use Rattle.base.proofs.Stores.{sets-append, empty}
+use Rattle.base.proofs.Tests.{in-text}
 use Rattle.utf8.specs.Grammar.{Octets}
 use Rattle.utf8.specs.State.{fresh, pushAll}
 use Rattle.utf8.specs.declared.state.State.{State}
@@ -27,6 +29,7 @@ use Rattle.strings.specs.Plain.{inOrdinary, simpleBytes, Spells}
 use Rattle.strings.specs.Decode.{Decoded, stepOf, letterDetail, stepNotes, prepend, measured}
 use Rattle.strings.specs.Literal.{literalOf}
 use Rattle.strings.specs.declared.literal.End.{End}
+use Rattle.strings.specs.declared.literal.End.the-variants as end
 use Rattle.strings.specs.declared.literal.Step.{Step}
 use Rattle.strings.specs.declared.literal.Step.the-variants.{Go, Stop}
 use Rattle.utf8.proofs.Settles.{Settled, settled}
@@ -36,6 +39,10 @@ use Rattle.strings.proofs.Parts.{simple-inside}
 
 pub length-four : (n a b c d : ℕ) → n ≤ 4 → length (take n (a ∷ b ∷ c ∷ d ∷ [])) ≡ n
 length-four n a b c d h = length-take-le n (a ∷ b ∷ c ∷ d ∷ []) h
+
+-- where a quote stands, the text goes on
+pub quote-in : (s : List ℕ) (e : ℕ) → byte s e ≡ 0x22 → e < length s
+quote-in s e q = in-text (λ x. eqb x 0x22) s e refl (rw q)
 
 -- a step makes one report or none
 length-one : (x : Bool) (r : Note) → length (pick x [] (r ∷ [])) ≡ pick x 0 1
@@ -65,6 +72,11 @@ fed-still t l f o none = go (eqb (t .need) 0) refl
     go : (b : Bool) → eqb (t .need) 0 ≡ b → pushAll t l ≡ t
     go true e = rw (f (eqb-true (t .need) 0 e)) (octets-fed o)
     go false e = rw (empty l (none (eqb-false (t .need) 0 e)))
+
+-- a quote closes a literal
+pub quote-stop : (m : Mode) (s : List ℕ) (e x : ℕ) → x ≡ byte s e → x ≡ 0x22 → Stop end.Closed (e + 1) ≡ stepOf m e (pieceOf (drop e s))
+unfolding pieceOf stepOf
+quote-stop m s e x is q = rw (drop-cons s e 0 (quote-in s e (sym is ∙ q)), sym is ∙ q)
 
 -- `measure_literal` at i
 pub record Measuring (m : Mode) (s : List ℕ) (i count reports : ℕ) (state : State) : Type 0 where

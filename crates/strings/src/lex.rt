@@ -158,6 +158,9 @@ pub fn put_string(s: &[u8], mode: Mode, out: &mut [u8], place: usize)
         let size = e - i;
         base::copy(out, p, s, i, size);
         p += size;
+        if base::peek(s, e) == b'"' {
+            return;
+        }
         let escapes = put_simple(s, e, out, p);
         if escapes != 0 {
             p += escapes;

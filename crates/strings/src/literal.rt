@@ -349,6 +349,17 @@ pub fn measure_literal(s: &[u8], mode: Mode) -> Measure
         let part = part_at(s, i, need);
         let e = part.end;
         count += part.count;
+        // Most literals end here, and need no step.
+        if base::peek(s, e) == b'"' {
+            let stop = e + 1;
+            return Measure {
+                count,
+                reports,
+                stop,
+                end: End::Closed,
+                state,
+            };
+        }
         let st = step_at(s, e, mode);
         match st {
             Step::Go {

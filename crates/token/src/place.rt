@@ -53,6 +53,9 @@ pub fn walk(text: &[u8], from: Place, to: usize) -> Place
     let mut place = from;
     loop {
         let at = place.offset;
+        if to <= at {
+            return place;
+        }
         let end = base::find::find(s, b'\n', at);
         let column = place.column + (end - at);
         let here = Place {

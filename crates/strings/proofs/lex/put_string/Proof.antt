@@ -1,6 +1,7 @@
--- `put_string` stores what is left after what is stored already: a run of bytes that stand for themselves, then escapes of one letter, and where
--- there are none a step. Assumes nothing.
-use Rattle.strings.proofs.Turns.{Writing, writing-first, run-ge, run-in, copy-room, copy-source, copy-fits, copied, simple-room, simple-in, unescaped, simple-fits, no-escape, writing-stop, text-in, text-less, put-four, put-room, writing-go}
+-- `put_string` stores what is left after what is stored already: a run of bytes that stand for themselves, then the closing quote, escapes of one
+-- letter, or a step. Assumes nothing.
+use Rattle.strings.proofs.Turns.{Writing, writing-first, run-ge, run-in, copy-room, copy-source, copy-fits, copied, simple-room, simple-in, unescaped, simple-fits, no-escape, writing-stop, text-in, text-less, put-four, put-room, writing-go, quote-stop}
+use mathlib.Core.Path.{refl}
 use lib.ListN.{length}
 use Prim.Native.Nat.{_-_}
 use native.Mathlib.Omega.{arith}
@@ -29,9 +30,23 @@ copy-requires c κs = search (copy-room, copy-source)
 add-p : tie.Need-add-p Inv-loop μ-loop
 add-p c = search copy-fits
 
+peek-requires : tie.Need-peek-requires Inv-loop μ-loop
+peek-requires c κs = search needs
+
+same-length : tie.Need-same-length Inv-loop μ-loop
+same-length c =
+    let g = c .before .before .before .before in
+    copied _ _ _ _ _ _ _ (g .before .before .before .loop .inv) _ (g .before .before .ordinary-end .ensures) _ (g .copy .ensures) .same
+
+returns : tie.Need-returns Inv-loop μ-loop
+returns c =
+    let g = c .before .before .before .before in
+    let w = copied _ _ _ _ _ _ _ (g .before .before .before .loop .inv) _ (g .before .before .ordinary-end .ensures) _ (g .copy .ensures) in
+    writing-stop _ _ _ _ _ _ _ w _ (quote-stop _ _ _ _ (c .before .peek .ensures) (c .if1 .taken)) _ _ refl
+
 put-simple-requires : tie.Need-put-simple-requires Inv-loop μ-loop
 put-simple-requires c κs =
-    let g = c .before .before .before in
+    let g = c .before .before .before .before .before in
     let u = g .before .before .before .loop .inv in
     let e = g .before .before .ordinary-end .ensures in
     (run-in _ _ _ _ _ _ _ u _ e, simple-room _ _ _ _ _ _ _ (copied _ _ _ _ _ _ _ u _ e _ (g .copy .ensures)))
@@ -39,35 +54,35 @@ put-simple-requires c κs =
 add-p-2 : tie.Need-add-p-2 Inv-loop μ-loop
 add-p-2 c =
     let b = c .before .before .before in
-    let g = b .before .before .before .before in
+    let g = b .before .before .before .before .before .before in
     let w = copied _ _ _ _ _ _ _ (g .before .before .before .loop .inv) _ (g .before .before .ordinary-end .ensures) _ (g .copy .ensures) in
     search (simple-fits _ _ _ _ _ _ _ w _ (b .put-simple .ensures .0) _ (b .put-simple .ensures .1))
 
 mul-i : tie.Need-mul-i Inv-loop μ-loop
 mul-i c =
     let b = c .before .before .before in
-    let g = b .before .before .before .before in
+    let g = b .before .before .before .before .before .before in
     let w = copied _ _ _ _ _ _ _ (g .before .before .before .loop .inv) _ (g .before .before .ordinary-end .ensures) _ (g .copy .ensures) in
     omega (arith, simple-in _ _ _ _ _ _ _ w _ (b .put-simple .ensures .0) _ (b .put-simple .ensures .1))
 
 add-i : tie.Need-add-i Inv-loop μ-loop
 add-i c =
     let b = c .before .before .before in
-    let g = b .before .before .before .before in
+    let g = b .before .before .before .before .before .before in
     let w = copied _ _ _ _ _ _ _ (g .before .before .before .loop .inv) _ (g .before .before .ordinary-end .ensures) _ (g .copy .ensures) in
     omega (arith, simple-in _ _ _ _ _ _ _ w _ (b .put-simple .ensures .0) _ (b .put-simple .ensures .1))
 
 loop-less : tie.Need-loop-less Inv-loop μ-loop
 loop-less c =
     let b = c .before .before .before in
-    let g = b .before .before .before .before in
+    let g = b .before .before .before .before .before .before in
     let w = copied _ _ _ _ _ _ _ (g .before .before .before .loop .inv) _ (g .before .before .ordinary-end .ensures) _ (g .copy .ensures) in
-    omega (arith, c .if1 .taken, simple-in _ _ _ _ _ _ _ w _ (b .put-simple .ensures .0) _ (b .put-simple .ensures .1), run-ge _ _ _ _ _ _ _ (g .before .before .before .loop .inv) _ (g .before .before .ordinary-end .ensures))
+    omega (arith, c .if2 .taken, simple-in _ _ _ _ _ _ _ w _ (b .put-simple .ensures .0) _ (b .put-simple .ensures .1), run-ge _ _ _ _ _ _ _ (g .before .before .before .loop .inv) _ (g .before .before .ordinary-end .ensures))
 
 loop-again : tie.Need-loop-again Inv-loop μ-loop
 loop-again c =
     let b = c .before .before .before in
-    let g = b .before .before .before .before in
+    let g = b .before .before .before .before .before .before in
     let w = copied _ _ _ _ _ _ _ (g .before .before .before .loop .inv) _ (g .before .before .ordinary-end .ensures) _ (g .copy .ensures) in
     unescaped _ _ _ _ _ _ _ w _ (b .put-simple .ensures .0) _ (b .put-simple .ensures .1)
 
@@ -81,68 +96,68 @@ put-requires : tie.Need-put-requires Inv-loop μ-loop
 put-requires c κs =
     let q = c .before .before .before .before in
     let b = c .before .before .before .before .before .before .before .before in
-    let g = b .before .before .before .before in
+    let g = b .before .before .before .before .before .before in
     let w = copied _ _ _ _ _ _ _ (g .before .before .before .loop .inv) _ (g .before .before .ordinary-end .ensures) _ (g .copy .ensures) in
-    let v = no-escape _ _ _ _ _ _ _ w _ (b .put-simple .ensures .0) _ (b .put-simple .ensures .1) (q .before .if1 .left) in
+    let v = no-escape _ _ _ _ _ _ _ w _ (b .put-simple .ensures .0) _ (b .put-simple .ensures .1) (q .before .if2 .left) in
     search (put-four _ _ _ _ _ _ _ v _ (q .step-at .ensures), put-room _ _ _ _ _ _ _ v _ (q .step-at .ensures))
 
 add-p-3 : tie.Need-add-p-3 Inv-loop μ-loop
 add-p-3 c =
     let q = c .before .before .before .before .before .before .before in
     let b = c .before .before .before .before .before .before .before .before .before .before .before in
-    let g = b .before .before .before .before in
+    let g = b .before .before .before .before .before .before in
     let w = copied _ _ _ _ _ _ _ (g .before .before .before .loop .inv) _ (g .before .before .ordinary-end .ensures) _ (g .copy .ensures) in
     let start = g .before .before .before .before .before .before .good in
-    let v = no-escape _ _ _ _ _ _ _ w _ (b .put-simple .ensures .0) _ (b .put-simple .ensures .1) (q .before .if1 .left) in
+    let v = no-escape _ _ _ _ _ _ _ w _ (b .put-simple .ensures .0) _ (b .put-simple .ensures .1) (q .before .if2 .left) in
     record { fits = omega (arith, put-room _ _ _ _ _ _ _ v _ (q .step-at .ensures) _ _ _ _ _ _ _ (c .before .before .before .before .before .st .given .1), v .same, start) }
 
 add-i-2 : tie.Need-add-i-2 Inv-loop μ-loop
 add-i-2 c =
     let q = c .before .before .before .before .before .before .before in
     let b = c .before .before .before .before .before .before .before .before .before .before .before in
-    let g = b .before .before .before .before in
+    let g = b .before .before .before .before .before .before in
     let w = copied _ _ _ _ _ _ _ (g .before .before .before .loop .inv) _ (g .before .before .ordinary-end .ensures) _ (g .copy .ensures) in
     let start = g .before .before .before .before .before .before .good in
-    let v = no-escape _ _ _ _ _ _ _ w _ (b .put-simple .ensures .0) _ (b .put-simple .ensures .1) (q .before .if1 .left) in
+    let v = no-escape _ _ _ _ _ _ _ w _ (b .put-simple .ensures .0) _ (b .put-simple .ensures .1) (q .before .if2 .left) in
     record { fits = omega (arith, text-in _ _ _ _ _ _ _ v _ (q .step-at .ensures) _ _ _ _ _ _ _ (c .before .before .before .before .before .st .given .1), start) }
 
 loop-less-2 : tie.Need-loop-less-2 Inv-loop μ-loop
 loop-less-2 c =
     let q = c .before .before .before .before .before .before .before in
     let b = c .before .before .before .before .before .before .before .before .before .before .before in
-    let g = b .before .before .before .before in
+    let g = b .before .before .before .before .before .before in
     let w = copied _ _ _ _ _ _ _ (g .before .before .before .loop .inv) _ (g .before .before .ordinary-end .ensures) _ (g .copy .ensures) in
-    let v = no-escape _ _ _ _ _ _ _ w _ (b .put-simple .ensures .0) _ (b .put-simple .ensures .1) (q .before .if1 .left) in
+    let v = no-escape _ _ _ _ _ _ _ w _ (b .put-simple .ensures .0) _ (b .put-simple .ensures .1) (q .before .if2 .left) in
     search (text-less _ _ _ _ _ _ _ v _ (q .step-at .ensures), run-ge _ _ _ _ _ _ _ (g .before .before .before .loop .inv) _ (g .before .before .ordinary-end .ensures))
 
 loop-again-2 : tie.Need-loop-again-2 Inv-loop μ-loop
 loop-again-2 c =
     let q = c .before .before .before .before .before .before .before in
     let b = c .before .before .before .before .before .before .before .before .before .before .before in
-    let g = b .before .before .before .before in
+    let g = b .before .before .before .before .before .before in
     let w = copied _ _ _ _ _ _ _ (g .before .before .before .loop .inv) _ (g .before .before .ordinary-end .ensures) _ (g .copy .ensures) in
-    let v = no-escape _ _ _ _ _ _ _ w _ (b .put-simple .ensures .0) _ (b .put-simple .ensures .1) (q .before .if1 .left) in
+    let v = no-escape _ _ _ _ _ _ _ w _ (b .put-simple .ensures .0) _ (b .put-simple .ensures .1) (q .before .if2 .left) in
     search (writing-go _ _ _ _ _ _ _ v _ (q .step-at .ensures))
 
 enum-told : tie.Need-enum-told Inv-loop μ-loop
 enum-told c = search needs
 
-same-length : tie.Need-same-length Inv-loop μ-loop
-same-length c =
+same-length-2 : tie.Need-same-length-2 Inv-loop μ-loop
+same-length-2 c =
     let q = c .before .before in
     let b = c .before .before .before .before .before .before in
-    let g = b .before .before .before .before in
+    let g = b .before .before .before .before .before .before in
     let w = copied _ _ _ _ _ _ _ (g .before .before .before .loop .inv) _ (g .before .before .ordinary-end .ensures) _ (g .copy .ensures) in
-    let v = no-escape _ _ _ _ _ _ _ w _ (b .put-simple .ensures .0) _ (b .put-simple .ensures .1) (q .before .if1 .left) in
+    let v = no-escape _ _ _ _ _ _ _ w _ (b .put-simple .ensures .0) _ (b .put-simple .ensures .1) (q .before .if2 .left) in
     v .same
 
-returns : tie.Need-returns Inv-loop μ-loop
-returns c =
+returns-2 : tie.Need-returns-2 Inv-loop μ-loop
+returns-2 c =
     let q = c .before .before in
     let b = c .before .before .before .before .before .before in
-    let g = b .before .before .before .before in
+    let g = b .before .before .before .before .before .before in
     let w = copied _ _ _ _ _ _ _ (g .before .before .before .loop .inv) _ (g .before .before .ordinary-end .ensures) _ (g .copy .ensures) in
-    let v = no-escape _ _ _ _ _ _ _ w _ (b .put-simple .ensures .0) _ (b .put-simple .ensures .1) (q .before .if1 .left) in
+    let v = no-escape _ _ _ _ _ _ _ w _ (b .put-simple .ensures .0) _ (b .put-simple .ensures .1) (q .before .if2 .left) in
     search (writing-stop _ _ _ _ _ _ _ v _ (q .step-at .ensures))
 
 pub put-string-spec : {M : Type 1} → statement M
@@ -156,6 +171,9 @@ put-string-spec =
     sub-size
     copy-requires
     add-p
+    peek-requires
+    same-length
+    returns
     put-simple-requires
     add-p-2
     mul-i
@@ -170,5 +188,5 @@ put-string-spec =
     loop-less-2
     loop-again-2
     enum-told
-    same-length
-    returns)
+    same-length-2
+    returns-2)

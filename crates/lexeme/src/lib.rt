@@ -17,17 +17,18 @@ pub enum Mode {
 }
 
 // A token of `len` bytes. Its value is `size` bytes from `value` on, a String's the `size` decoded bytes; its precision is `digits` bytes from
-// `precision` on. `reports` counts its reports.
+// `precision` on. `reports` counts its reports. Numbers that are neighbours in a record are none here: else the compiler loads two at once,
+// which waits for both to be stored.
 pub struct Lexeme {
     pub kind: TokenKind,
     pub reason: usize,
-    pub detail: usize,
     pub len: usize,
+    pub detail: usize,
     pub value: usize,
-    pub size: usize,
-    pub precision: usize,
     pub digits: usize,
+    pub size: usize,
     pub nanos: i64,
+    pub precision: usize,
     pub reports: usize,
 }
 

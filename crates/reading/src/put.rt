@@ -16,6 +16,7 @@ use lexer::next::string_size;
 use lexer::put::put_reports;
 use lexer::put::put_string;
 use token::layout::Record;
+use token::place::Place;
 
 // The number of a token's kind.
 pub fn kind_number(t: Token) -> usize
@@ -106,6 +107,12 @@ pub fn put_token(
         put_string(&text[start..], mode, strings, at);
     }
     if t.reports != 0 {
-        put_reports(text, t.start, mode, limit, reports, k);
+        // A place of its own, so that the token need not lie in memory.
+        let start = Place {
+            offset: t.start.offset,
+            line: t.start.line,
+            column: t.start.column,
+        };
+        put_reports(text, start, mode, limit, reports, k);
     }
 }

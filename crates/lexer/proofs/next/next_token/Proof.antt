@@ -53,7 +53,7 @@ returns : tie.Need-returns
 returns c =
     let n = c .before .before .before .before .before .before in
     let a = n .before .before in
-    let f : SFits w64 (n .next-lexeme .result .lexeme .nanos) = record { sfits = c .struct-told .given .1 .0 .1 .1 .1 .1 .1 .1 .1 .1 .1 .1 .0 .1 } in
+    let f : SFits w64 (n .next-lexeme .result .lexeme .nanos) = record { sfits = c .struct-told .given .1 .0 .1 .1 .1 .1 .1 .1 .1 .1 .1 .0 .1 } in
     rw (toZ-ofZ w64 (n .next-lexeme .result .lexeme .nanos) f)
     (token-is (a .args .mode) (a .args .limit) (a .args .text .now) (a .args .place) (a .pre .0) (n .next-lexeme .result) (n .next-lexeme .ensures) _ (c .before .before .before .end-place .result) (c .before .before .precision-at .result) (start-along (a .args .mode) (a .args .limit) (a .args .text .now) (a .args .place) (a .pre .0) (n .next-lexeme .result) (n .next-lexeme .ensures)) (c .before .before .before .end-place .ensures) (c .before .before .precision-at .ensures))
 

@@ -23,12 +23,13 @@ use Rattle.token.specs.Kind.{onOneLine}
 use Rattle.token.specs.Place.{placeAt, Flat, Walkable}
 use Rattle.token.specs.declared.kind.TokenKind.the-variants as K
 use Rattle.token.specs.declared.place.Place.{Place}
-use Rattle.token.proofs.Places.{place-offset, flat-along}
+use Rattle.token.proofs.Places.{place-offset, to-place, flat-along}
 use Rattle.lexeme.specs.Lexeme.{bare}
 use Rattle.lexeme.specs.declared.Lexeme.{Lexeme}
 use Rattle.lexeme.specs.declared.Mode.{Mode}
+use Rattle.lexeme.specs.declared.Mode.the-variants.{Strict}
 use Rattle.lexer.specs.Lexer.{FromQuote, lexemeOf, stringOf, notesOf}
-use Rattle.lexer.specs.Token.{inBlanks, startAt, foundAt, endOf, nextToken}
+use Rattle.lexer.specs.Token.{inBlanks, startAt, foundFrom, foundAt, endOf, placed, tokenOf, nextToken, Ending, Placing}
 use Rattle.lexer.specs.declared.next.Found.{Found}
 use Rattle.lexer.specs.declared.next.Token.{Token}
 use Rattle.lexer.proofs.Lexed.{Lexed, lexed}
@@ -56,10 +57,19 @@ pub start-le : (text : List ℕ) (at : ℕ) → at ≤ length text → startAt t
 unfolding startAt
 start-le text at h = reach-le inBlanks text at h
 
-module _ (m : Mode) (limit : ℕ) (text : List ℕ) (at : ℕ) (h : at ≤ length text) where
-  start-in : startAt text at ≤ length text
-  start-in = start-le text at h
+-- the token that starts at an offset: an Eof at the text's end, else one of at least a byte
+module _ (m : Mode) (limit : ℕ) (text : List ℕ) (i : ℕ) (h : i ≤ length text) where
+  from-eof : i ≡ length text → lexemeOf m limit (drop i text) ≡ bare K.Eof 0
+  unfolding lexemeOf
+  from-eof e = rw (eq-eqb (length (drop i text)) 0 (rw (length-drop i text) (omega arith)))
 
+  from-more : i < length text → Lexed m limit (drop i text) (lexemeOf m limit (drop i text))
+  from-more l = lexed m limit (drop i text) (rw (length-drop i text) (omega arith))
+
+  from-in : i + lexemeOf m limit (drop i text) .len ≤ length text
+  from-in = ⊎-elim (λ e. rw (from-eof e) (omega arith)) (λ l. omega (arith, from-more l .within .ends, length-drop i text)) (eq-or-lt-of-le h)
+
+module _ (m : Mode) (limit : ℕ) (text : List ℕ) (at : ℕ) (h : at ≤ length text) where
   start-ge : at ≤ startAt text at
   unfolding startAt
   start-ge = reach-ge inBlanks text at
@@ -68,22 +78,18 @@ module _ (m : Mode) (limit : ℕ) (text : List ℕ) (at : ℕ) (h : at ≤ lengt
   unfolding startAt
   gap-is k l u = reach-all inBlanks text at k l u
 
-  found-eof : startAt text at ≡ length text → lexemeOf m limit (drop (startAt text at) text) ≡ bare K.Eof 0
-  unfolding lexemeOf
-  found-eof e = rw (eq-eqb (length (drop (startAt text at) text)) 0 (rw (length-drop (startAt text at) text) (omega arith)))
-
-  found-more : startAt text at < length text → Lexed m limit (drop (startAt text at) text) (lexemeOf m limit (drop (startAt text at) text))
-  found-more l = lexed m limit (drop (startAt text at) text) (rw (length-drop (startAt text at) text) (omega arith))
-
-  end-in : startAt text at + lexemeOf m limit (drop (startAt text at) text) .len ≤ length text
-  end-in =
-      ⊎-elim (λ e. rw (found-eof e) (omega (arith, start-in)))
-      (λ l. omega (arith, found-more l .within .ends, length-drop (startAt text at) text))
-      (eq-or-lt-of-le start-in)
-
   pub next-law : Next m limit text at (foundAt m limit text at)
   unfolding foundAt
-  next-law = record { after = start-ge; gap = gap-is; start-in = start-in; inside = end-in; eof = found-eof; more = found-more }
+  next-law =
+      let s = start-le text at h in
+      record {
+        after = start-ge;
+        gap = gap-is;
+        start-in = s;
+        inside = from-in m limit text (startAt text at) s;
+        eof = from-eof m limit text (startAt text at) s;
+        more = from-more m limit text (startAt text at) s;
+      }
 
 -- the numbers of the token found, Eof or not
 pub record Bounds (text : List ℕ) (f : Found) : Type 0 where
@@ -101,69 +107,83 @@ eof-bounds : (text : List ℕ) (n : ℕ) (x : Lexeme) → x ≡ bare K.Eof 0 →
 eof-bounds text n x e h =
     rw e (record { inside = omega arith; value-in = omega arith; precision-in = omega arith; reports-in = omega arith; reason-in = omega arith; detail-in = λ _. omega arith })
 
+from-bounds : (m : Mode) (limit : ℕ) (text : List ℕ) (i : ℕ) → i ≤ length text → Bounds text (foundFrom m limit text i)
+from-bounds m limit text i h =
+    ⊎-elim (λ q. eof-bounds text i (lexemeOf m limit (drop i text)) (from-eof m limit text i h q) h)
+    (λ l.
+    let w = from-more m limit text i h l .within in
+    record {
+      inside = from-in m limit text i h;
+      value-in = w .value-in;
+      precision-in = w .precision-in;
+      reports-in = w .reports-in;
+      reason-in = w .reason-in;
+      detail-in = λ bytes. w .detail-in (bytes-drop text i bytes);
+    })
+    (eq-or-lt-of-le h)
+
 module _ (m : Mode) (limit : ℕ) (text : List ℕ) (at : ℕ) (h : at ≤ length text) (f : Found) (e : f ≡ foundAt m limit text at) where
   -- what is known of a token that a call gave
   pub next-of : Next m limit text at f
   next-of = subst (λ (g : Found). Next m limit text at g) (sym e) (next-law m limit text at h)
 
   pub bounds-of : Bounds text f
-  bounds-of =
-      let n = next-of in
-      ⊎-elim (λ q. eof-bounds text (f .start) (f .lexeme) (n .eof q) (n .start-in))
-      (λ l.
-      let w = n .more l .within in
-      record { inside = n .inside; value-in = w .value-in; precision-in = w .precision-in; reports-in = w .reports-in; reason-in = w .reason-in; detail-in = λ bytes. w .detail-in (bytes-drop text (f .start) bytes) })
-      (eq-or-lt-of-le (n .start-in))
+  unfolding foundAt
+  bounds-of = subst (λ (g : Found). Bounds text g) (sym e) (from-bounds m limit text (startAt text at) (start-le text at h))
 
--- from a place of the text to the token's start, and from there to its end
-module _ (m : Mode) (limit : ℕ) (text : List ℕ) (p : Place) (w : Walkable text p (p .offset)) (f : Found) (e : f ≡ foundAt m limit text (p .offset)) where
-  pub to-start : Walkable text p (f .start)
-  to-start =
-      let n = next-of m limit text (p .offset) (w .inside) f e in
-      record { true-place = w .true-place; forward = n .after; inside = n .start-in; short = w .short }
+-- from a place of the text over the blanks after it
+module _ (text : List ℕ) (p : Place) (w : Walkable text p (p .offset)) where
+  pub over-blanks : Walkable text p (startAt text (p .offset))
+  over-blanks =
+      record { true-place = w .true-place; forward = start-ge Strict 0 text (p .offset) (w .inside); inside = start-le text (p .offset) (w .inside); short = w .short }
 
-  -- the blanks before it have no newline
-  gap-flat : Flat (drop (p .offset) text) (f .start - p .offset)
+  -- blanks have no newline
+  blanks-flat : Flat (drop (p .offset) text) (startAt text (p .offset) - p .offset)
   unfolding isSpace
-  gap-flat j h z =
-      let n = next-of m limit text (p .offset) (w .inside) f e in
+  blanks-flat j h z =
       let b : byte text (p .offset + j) ≡ 10 = sym (getD-drop (p .offset) text j 0) ∙ z in
-      true-false (isSpace 10) (rw b at (n .gap (p .offset + j) (omega arith) (omega arith))) refl
+      true-false (isSpace 10) (rw b at (gap-is Strict 0 text (p .offset) (w .inside) (p .offset + j) (omega arith) (omega arith))) refl
 
-  pub start-along : _≡_ {A = Place} (record { offset = f .start; line = p .line; column = p .column + (f .start - p .offset) }) (placeAt text (f .start))
-  start-along =
-      let n = next-of m limit text (p .offset) (w .inside) f e in
-      let z : p .offset + (f .start - p .offset) ≡ f .start = omega (arith, n .after) in
-      rw z at (flat-along text p (f .start - p .offset) (record { true-place = w .true-place; forward = omega arith; inside = omega (arith, n .after, n .start-in); short = w .short }) gap-flat)
+  pub blanks-along : _≡_ {A = Place} (record { offset = startAt text (p .offset); line = p .line; column = p .column + (startAt text (p .offset) - p .offset) }) (placeAt text (startAt text (p .offset)))
+  blanks-along =
+      let o = over-blanks in
+      let z : p .offset + (startAt text (p .offset) - p .offset) ≡ startAt text (p .offset) = omega (arith, o .forward) in
+      rw z at (flat-along text p (startAt text (p .offset) - p .offset) (record { true-place = w .true-place; forward = omega arith; inside = omega (arith, o .forward, o .inside); short = w .short }) blanks-flat)
 
-  pub end-flat : onOneLine (f .lexeme .kind) ≡ true → Flat (drop (f .start) text) (f .lexeme .len)
-  end-flat q =
-      let n = next-of m limit text (p .offset) (w .inside) f e in
-      ⊎-elim (λ z. rw (n .eof z) (λ j h _. absurd (omega arith))) (λ l. n .more l .on-line q) (eq-or-lt-of-le (n .start-in))
+  -- the place past them is one of the text
+  module _ (q : Place) (e : q ≡ placeAt text (startAt text (p .offset))) where
+    pub past-offset : q .offset ≡ startAt text (p .offset)
+    past-offset = ap (λ (x : Place). x .offset) e ∙ place-offset text (startAt text (p .offset)) (start-le text (p .offset) (w .inside))
 
-  pub to-end : (q : Place) → q ≡ placeAt text (f .start) → Walkable text q (endOf f)
-  to-end q d =
-      let n = next-of m limit text (p .offset) (w .inside) f e in
-      let o : q .offset ≡ f .start = ap (λ (x : Place). x .offset) d ∙ place-offset text (f .start) (n .start-in) in
-      record { true-place = d ∙ ap (placeAt text) (sym o); forward = omega arith; inside = n .inside; short = w .short }
+    pub past-place : Walkable text q (q .offset)
+    past-place = to-place q (w .short) (e ∙ ap (placeAt text) (sym past-offset)) (rw past-offset (start-le text (p .offset) (w .inside)))
 
-  pub token-is : (q r : Place) (k : ℕ) → q ≡ placeAt text (f .start) → r ≡ placeAt text (endOf f)
-      → k ≡ pick (eqb (f .lexeme .digits) 0) 0 (f .start + f .lexeme .precision)
-      → _≡_ {A = Token} (record {
-        kind = f .lexeme .kind;
-        reason = f .lexeme .reason;
-        detail = f .lexeme .detail;
-        start = q;
-        end = r;
-        value = f .start + f .lexeme .value;
-        size = f .lexeme .size;
-        precision = k;
-        digits = f .lexeme .digits;
-        nanos = f .lexeme .nanos;
-        reports = f .lexeme .reports;
-      }) (nextToken m limit text (p .offset))
-  unfolding nextToken
-  token-is q r k a b c = rw (← e, a, b, c)
+    -- the token from there is the next token
+    pub past-next : (m : Mode) (limit : ℕ) → tokenOf text (foundFrom m limit text (q .offset)) ≡ nextToken m limit text (p .offset)
+    unfolding nextToken foundAt
+    past-next m limit = rw past-offset
+
+-- the token that starts at a place of the text
+module _ (m : Mode) (limit : ℕ) (text : List ℕ) (p : Place) (w : Walkable text p (p .offset)) (x : Lexeme) (e : x ≡ lexemeOf m limit (drop (p .offset) text)) where
+  here : Bounds text (record { start = p .offset; lexeme = x })
+  here = rw e (from-bounds m limit text (p .offset) (w .inside))
+
+  here-flat : onOneLine (x .kind) ≡ true → Flat (drop (p .offset) text) (x .len)
+  here-flat q =
+      ⊎-elim (λ z. rw (e ∙ from-eof m limit text (p .offset) (w .inside) z) (λ j h _. absurd (omega arith)))
+      (λ l. rw e (from-more m limit text (p .offset) (w .inside) l .on-line (rw e at q))) (eq-or-lt-of-le (w .inside))
+
+  pub here-ending : Ending text p (x .kind) (x .len)
+  here-ending =
+      record { walkable = record { true-place = w .true-place; forward = omega arith; inside = here .inside; short = w .short }; flat = here-flat }
+
+  pub here-placing : Placing p x
+  here-placing =
+      let b = here in
+      record { value = omega (arith, b .inside, b .value-in, w .short); precision = omega (arith, b .inside, b .precision-in, w .short) }
+
+  pub here-token : (r : Place) → r ≡ placeAt text (p .offset + x .len) → placed (p .offset) p r x ≡ tokenOf text (foundFrom m limit text (p .offset))
+  here-token r d = rw (← e, ← w .true-place, d)
 
 -- at the end of a text nothing stands that has a string or reports
 pub eof-string : (m : Mode) → stringOf m [] ≡ []

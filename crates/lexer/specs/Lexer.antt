@@ -9,6 +9,8 @@ use Rattle.base.specs.Choice.{pick}
 use Rattle.base.specs.Bytes.{byte}
 use Rattle.base.specs.Classes.{isDigit, isIdentStart}
 use Rattle.utf8.specs.Grammar.{Octets}
+use Rattle.token.specs.Kind.{kindNumber}
+use Rattle.token.specs.declared.kind.TokenKind.{TokenKind}
 use Rattle.token.specs.declared.kind.TokenKind.the-variants as K
 use Rattle.lexeme.specs.Lexeme.{whole, bare, Note}
 use Rattle.lexeme.specs.declared.Lexeme.{Lexeme}
@@ -22,6 +24,24 @@ use Rattle.strings.specs.Literal.{lexString, stringBytes, stringNotes}
 use Rattle.triple_strings.specs.Triple.{lexTripleString, tripleBytes, tripleNotes}
 use Rattle.lexer.specs.declared.class.Class.{Class}
 use Rattle.lexer.specs.declared.class.Class.the-variants as C
+
+-- the kind of the mark that a byte is, a newline or a token of one byte, and Eof where it is none
+unfoldable pub markOf : ℕ → TokenKind
+markOf a =
+    pick (eqb a 10) K.Newline
+    (pick (eqb a 123) K.LBrace
+    (pick (eqb a 125) K.RBrace
+    (pick (eqb a 91) K.LBracket
+    (pick (eqb a 93) K.RBracket
+    (pick (eqb a 40) K.LParen
+    (pick (eqb a 41) K.RParen
+    (pick (eqb a 61) K.Equals
+    (pick (eqb a 58) K.Colon
+    (pick (eqb a 44) K.Comma K.Eof)))))))))
+
+-- the token of a mark: a newline has no value, any other mark is its own
+unfoldable pub markLexeme : TokenKind → Lexeme
+markLexeme k = pick (eqb (kindNumber k) 2) (bare k 1) (whole k 1)
 
 -- what the first three bytes choose, in the order of `next_token`
 unfoldable pub classOf : ℕ → ℕ → ℕ → Class

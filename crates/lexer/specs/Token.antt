@@ -12,6 +12,7 @@ use Rattle.token.specs.Kind.{kindNumber, onOneLine}
 use Rattle.token.specs.Place.{placeAt, Flat, Walkable}
 use Rattle.token.specs.declared.place.Place.{Place}
 use Rattle.token.specs.declared.kind.TokenKind.{TokenKind}
+use Rattle.lexeme.specs.declared.Lexeme.{Lexeme}
 use Rattle.lexeme.specs.declared.Mode.{Mode}
 use Rattle.lexeme.specs.Reports.{notesNumbers}
 use Rattle.lexer.specs.Lexer.{lexemeOf, notesOf}
@@ -26,30 +27,38 @@ inBlanks a b = isSpace a
 unfoldable pub startAt : List ℕ → ℕ → ℕ
 startAt text at = reach inBlanks text at
 
+-- the token that starts at an offset, relative to it
+abbrev pub foundFrom : Mode → ℕ → List ℕ → ℕ → Found
+foundFrom m limit text i = record { start = i; lexeme = lexemeOf m limit (drop i text) }
+
 -- the token after an offset, relative to its start
 unfoldable pub foundAt : Mode → ℕ → List ℕ → ℕ → Found
-foundAt m limit text at = record { start = startAt text at; lexeme = lexemeOf m limit (drop (startAt text at) text) }
+foundAt m limit text at = foundFrom m limit text (startAt text at)
 
 -- where it ends
 abbrev pub endOf : Found → ℕ
 endOf f = f .start + f .lexeme .len
 
--- it with its places in the text; a String's value place is put in where its buffer is known
-abbrev pub tokenOf : List ℕ → Found → Token
-tokenOf text f =
+-- a token between two places, the first of which is at the offset i; a String's value place is put in where its buffer is known
+abbrev pub placed : ℕ → Place → Place → Lexeme → Token
+placed i start end x =
     record {
-      kind = f .lexeme .kind;
-      reason = f .lexeme .reason;
-      detail = f .lexeme .detail;
-      start = placeAt text (f .start);
-      end = placeAt text (endOf f);
-      value = f .start + f .lexeme .value;
-      size = f .lexeme .size;
-      precision = pick (eqb (f .lexeme .digits) 0) 0 (f .start + f .lexeme .precision);
-      digits = f .lexeme .digits;
-      nanos = f .lexeme .nanos;
-      reports = f .lexeme .reports;
+      kind = x .kind;
+      reason = x .reason;
+      detail = x .detail;
+      start = start;
+      end = end;
+      value = i + x .value;
+      size = x .size;
+      precision = pick (eqb (x .digits) 0) 0 (i + x .precision);
+      digits = x .digits;
+      nanos = x .nanos;
+      reports = x .reports;
     }
+
+-- a token found in the text, with its places
+abbrev pub tokenOf : List ℕ → Found → Token
+tokenOf text f = placed (f .start) (placeAt text (f .start)) (placeAt text (endOf f)) (f .lexeme)
 
 unfoldable pub nextToken : Mode → ℕ → List ℕ → ℕ → Token
 nextToken m limit text at = tokenOf text (foundAt m limit text at)
@@ -58,6 +67,11 @@ nextToken m limit text at = tokenOf text (foundAt m limit text at)
 pub record Ending (text : List ℕ) (start : Place) (kind : TokenKind) (len : ℕ) : Type 0 where
   pub walkable : Walkable text start (start .offset + len)
   pub flat : onOneLine kind ≡ true → Flat (drop (start .offset) text) len
+
+-- a token that starts at a place, whose numbers can be counted from the text's start
+pub record Placing (start : Place) (x : Lexeme) : Type 0 where
+  pub value : start .offset + x .value < 0x8000000000000000
+  pub precision : start .offset + x .precision < 0x8000000000000000
 
 -- the kind's number is String's
 abbrev pub isString : TokenKind → Bool

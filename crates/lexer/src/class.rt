@@ -1,8 +1,9 @@
 // Which lexer a token's first bytes choose.
 ghost use mathlib.Core.Path.{_≡_};
-ghost use Rattle.lexer.specs.Lexer.{classOf};
+ghost use Rattle.lexer.specs.Lexer.{markOf, classAt};
 use base::class::is_digit;
 use base::class::is_ident_start;
+use base::peek;
 use token::kind::TokenKind;
 
 pub enum Class {
@@ -23,30 +24,50 @@ pub enum Class {
     Other,
 }
 
-// The class of a token that begins with the bytes a, b and c.
-pub fn classify(a: u8, b: u8, c: u8) -> Class
-    ensures { λ r. ⌜ r ≡ classOf a b c ⌝ }
+// The kind of the mark that a byte is: a newline or a token of one byte; Eof where it is none.
+pub fn mark(b: u8) -> TokenKind
+    ensures { λ r. ⌜ r ≡ markOf b ⌝ }
 {
+    match b {
+        b'\n' => TokenKind::Newline,
+        b'{' => TokenKind::LBrace,
+        b'}' => TokenKind::RBrace,
+        b'[' => TokenKind::LBracket,
+        b']' => TokenKind::RBracket,
+        b'(' => TokenKind::LParen,
+        b')' => TokenKind::RParen,
+        b'=' => TokenKind::Equals,
+        b':' => TokenKind::Colon,
+        b',' => TokenKind::Comma,
+        _ => TokenKind::Eof,
+    }
+}
+
+// The class of the token at the front of s. The bytes after the first are looked at only where they count.
+pub fn classify(s: &[u8]) -> Class
+    ensures { λ r. ⌜ r ≡ classAt (now (s .entry)) ⌝ }
+{
+    let a = peek(s, 0);
     match a {
         b'\n' => Class::Newline,
         b'#' => Class::LineComment,
         b'/' => {
-            if b == b'/' {
+            if peek(s, 1) == b'/' {
                 return Class::LineComment;
             }
-            if b == b'*' {
+            if peek(s, 1) == b'*' {
                 return Class::BlockComment;
             }
             Class::Other
         }
         b'"' => {
-            if (b == b'"') & (c == b'"') {
+            if (peek(s, 1) == b'"') & (peek(s, 2) == b'"') {
                 return Class::Triple;
             }
             Class::Quote
         }
         b'b' => {
-            if b == b'"' {
+            if peek(s, 1) == b'"' {
                 return Class::Bytes;
             }
             Class::Name

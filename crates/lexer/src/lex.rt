@@ -5,7 +5,6 @@ ghost use lib.ListN.{length};
 ghost use Rattle.lexer.specs.Lexer.{classAt, FromQuote, lexBy, lexemeOf};
 use crate::class::Class;
 use crate::class::classify;
-use base::peek;
 use lexeme::Lexeme;
 use lexeme::Mode;
 use lexeme::bare;
@@ -49,6 +48,6 @@ pub fn lex_one(s: &[u8], mode: Mode, limit: usize) -> Lexeme
     if s.len() == 0 {
         return bare(TokenKind::Eof, 0);
     }
-    let class = classify(s[0], peek(s, 1), peek(s, 2));
+    let class = classify(s);
     lex_by(class, s, mode, limit)
 }

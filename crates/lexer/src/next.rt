@@ -6,8 +6,11 @@ ghost use lib.ListN.{length};
 ghost use Rattle.base.specs.Choice.{pick};
 ghost use Rattle.utf8.specs.Grammar.{Octets};
 ghost use Rattle.token.specs.Place.{placeAt, Walkable};
-ghost use Rattle.lexer.specs.Token.{startAt, foundAt, Ending, nextToken, stringSize};
+ghost use Rattle.lexer.specs.Lexer.{markLexeme};
+ghost use Rattle.lexer.specs.Token.{startAt, foundFrom, foundAt, placed, tokenOf, nextToken, Ending, Placing, stringSize};
+use crate::class::mark;
 use crate::lex::lex_one;
+use base::peek;
 use lexeme::Lexeme;
 use lexeme::Mode;
 use scan::run::Run;
@@ -45,12 +48,27 @@ pub fn skip_spaces(text: &[u8], at: usize) -> usize
     reach_run(Run::Blank, text, at)
 }
 
-// The token after an offset, relative to its start.
+// The lexeme of a mark: a newline has no value, any other mark is its own.
+fn mark_lexeme(kind: TokenKind) -> Lexeme
+    ensures { λ r. ⌜ r ≡ markLexeme kind ⌝ }
+{
+    if kind.number() == 2 {
+        return lexeme::bare(kind, 1);
+    }
+    lexeme::whole(kind, 1)
+}
+
+// The token after an offset, relative to its start. Most tokens are marks, which need no lexer.
 pub fn next_lexeme(text: &[u8], at: usize, mode: Mode, limit: usize) -> Found
     requires { ⌜ (at ≤ length (now text)) × Octets (now text) ⌝ }
     ensures { λ r. ⌜ r ≡ foundAt mode limit (now (text .entry)) at ⌝ }
 {
     let start = skip_spaces(text, at);
+    let kind = mark(peek(text, start));
+    if kind.number() != 0 {
+        let lexeme = mark_lexeme(kind);
+        return Found { start, lexeme };
+    }
     let lexeme = lex_one(&text[start..], mode, limit);
     Found { start, lexeme }
 }
@@ -94,40 +112,80 @@ fn end_place(text: &[u8], start: Place, kind: TokenKind, len: usize) -> Place
     }
 }
 
-// The token after a place of the text, with its places. Blanks have no newline. The lexeme's fields are read one by one where they lie: a copy
-// of it would wait until all of it is stored.
+// The place past the blanks after a place, which have no newline.
+fn past_blanks(text: &[u8], place: Place) -> Place
+    requires { ⌜ Walkable (now text) place (place .offset) ⌝ }
+    ensures { λ r. ⌜ r ≡ placeAt (now (text .entry)) (startAt (now (text .entry)) (place .offset)) ⌝ }
+{
+    let at = place.offset;
+    let offset = skip_spaces(text, at);
+    let gap = offset - at;
+    let column = place.column + gap;
+    Place {
+        offset,
+        line: place.line,
+        column,
+    }
+}
+
+// A token between two places. The lexeme's fields are read one by one where they lie: a copy of it would wait until all of it is stored.
+fn placed(start: Place, end: Place, x: Lexeme) -> Token
+    requires { ⌜ Placing start x ⌝ }
+    ensures { λ r. ⌜ r ≡ placed (start .offset) start end x ⌝ }
+{
+    let first = start.offset;
+    let kind = x.kind;
+    let precision = precision_at(first, x.precision, x.digits);
+    let value = first + x.value;
+    Token {
+        kind,
+        reason: x.reason,
+        detail: x.detail,
+        start,
+        end,
+        value,
+        size: x.size,
+        precision,
+        digits: x.digits,
+        nanos: x.nanos,
+        reports: x.reports,
+    }
+}
+
+// The token that starts at a place, where no blank stands.
+fn token_from(text: &[u8], start: Place, mode: Mode, limit: usize) -> Token
+    requires { ⌜ Walkable (now text) start (start .offset) × Octets (now text) ⌝ }
+    ensures { λ r. ⌜ r ≡ tokenOf (now (text .entry)) (foundFrom mode limit (now (text .entry)) (start .offset)) ⌝ }
+{
+    let first = start.offset;
+    let x = lex_one(&text[first..], mode, limit);
+    let kind = x.kind;
+    let end = end_place(text, start, kind, x.len);
+    placed(start, end, x)
+}
+
+// The token after a place of the text, with its places.
 pub fn next_token(text: &[u8], place: Place, mode: Mode, limit: usize) -> Token
     requires { ⌜ Walkable (now text) place (place .offset) × Octets (now text) ⌝ }
     ensures { λ r. ⌜ r ≡ nextToken mode limit (now (text .entry)) (place .offset) ⌝ }
 {
-    let at = place.offset;
-    let found = next_lexeme(text, at, mode, limit);
-    let x = found.lexeme;
-    let kind = x.kind;
-    let first = found.start;
-    let gap = first - at;
-    let column = place.column + gap;
-    let start = Place {
-        offset: first,
-        line: place.line,
-        column,
-    };
-    let end = end_place(text, start, kind, found.lexeme.len);
-    let precision = precision_at(first, found.lexeme.precision, found.lexeme.digits);
-    let value = first + found.lexeme.value;
-    Token {
-        kind,
-        reason: found.lexeme.reason,
-        detail: found.lexeme.detail,
-        start,
-        end,
-        value,
-        size: found.lexeme.size,
-        precision,
-        digits: found.lexeme.digits,
-        nanos: found.lexeme.nanos,
-        reports: found.lexeme.reports,
+    token_from(text, past_blanks(text, place), mode, limit)
+}
+
+// The same, for the loop that reads all tokens: most are marks, which need no lexer and no search for newlines. Called from that loop alone, it
+// becomes a part of it, and the token stays in registers.
+pub fn each_token(text: &[u8], place: Place, mode: Mode, limit: usize) -> Token
+    requires { ⌜ Walkable (now text) place (place .offset) × Octets (now text) ⌝ }
+    ensures { λ r. ⌜ r ≡ nextToken mode limit (now (text .entry)) (place .offset) ⌝ }
+{
+    let start = past_blanks(text, place);
+    let first = start.offset;
+    let b = peek(text, first);
+    let kind = mark(b);
+    if kind.number() != 0 {
+        return placed(start, start.step(b), mark_lexeme(kind));
     }
+    token_from(text, start, mode, limit)
 }
 
 // How many bytes a token lays into the string buffer.

@@ -11,8 +11,8 @@ use crate::judge::Judged;
 use crate::judge::judge;
 use crate::put::put_token;
 use lexeme::Mode;
+use lexer::next::each_token;
 use lexer::next::next_lexeme;
-use lexer::next::next_token;
 use lexer::next::string_size;
 use token::layout::RECORD_WIDTH;
 use token::layout::REPORT_WIDTH;
@@ -106,7 +106,7 @@ fn write(
     let mut m = 0;
     let mut k = 0;
     loop {
-        let t = next_token(text, place, mode, limit);
+        let t = each_token(text, place, mode, limit);
         let kind = t.kind;
         let i = n * RECORD_WIDTH;
         let j = k * REPORT_WIDTH;

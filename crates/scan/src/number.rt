@@ -182,15 +182,17 @@ pub fn lex_number(s: &[u8]) -> Lexeme
     ensures { λ r. ⌜ r ≡ lexNumber (now (s .entry)) ⌝ }
 {
     let a = peek(s, 0);
-    let minus = a == b'-';
-    if ((a == b'+') | minus) & at_inf(s) {
-        return lexeme::whole(TokenKind::Float, 4);
+    let sign = (a == b'+') | (a == b'-');
+    if sign {
+        if at_inf(s) {
+            return lexeme::whole(TokenKind::Float, 4);
+        }
+        if a == b'+' {
+            return lexeme::illegal(16, 0, 1);
+        }
+        if !is_digit(peek(s, 1)) {
+            return lexeme::illegal(17, 0, 1);
+        }
     }
-    if a == b'+' {
-        return lexeme::illegal(16, 0, 1);
-    }
-    if minus & !is_digit(peek(s, 1)) {
-        return lexeme::illegal(17, 0, 1);
-    }
-    lex_digits(s, minus as usize)
+    lex_digits(s, sign as usize)
 }

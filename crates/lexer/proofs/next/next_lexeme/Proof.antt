@@ -1,7 +1,12 @@
--- `next_lexeme` skips the blanks and lexes the rest from there. Assumes nothing.
+-- `next_lexeme` skips the blanks; a mark is a token by its byte alone, any other is lexed from there. Assumes nothing.
+use mathlib.Core.Path.{_≡_}
+use Rattle.base.specs.Bytes.{byte}
 use Rattle.base.proofs.Reaches.{rest-is}
+use Rattle.token.specs.Kind.{kindNumber}
+use Rattle.lexer.specs.Lexer.{markOf}
 use Rattle.lexer.specs.Token.{foundAt}
 use Rattle.lexer.proofs.Founds.{start-le, from-quote}
+use Rattle.lexer.proofs.Marks.{mark-is}
 use borrow.Author.Needs.{needs}
 use Rattle.lexer.proofs.next.next_lexeme.Statement.{statement}
 use Rattle.lexer.proofs.next.next_lexeme.Tie as tie
@@ -9,32 +14,69 @@ use Rattle.lexer.proofs.next.next_lexeme.Tie as tie
 skip-spaces-requires : tie.Need-skip-spaces-requires
 skip-spaces-requires c κs = search needs
 
+peek-requires : tie.Need-peek-requires
+peek-requires c κs = search needs
+
+mark-requires : tie.Need-mark-requires
+mark-requires c κs = search needs
+
+number-requires : tie.Need-number-requires
+number-requires c κs = search needs
+
+mark-lexeme-requires : tie.Need-mark-lexeme-requires
+mark-lexeme-requires c κs = search needs
+
+returns : tie.Need-returns
+unfolding foundAt
+returns c =
+    let d = c .before in
+    let s = d .before .before .before .before in
+    let a = s .before .before in
+    let n : kindNumber (markOf (byte (a .args .text .now) (s .skip-spaces .result))) ≡ 0 → ⊥ =
+    rw (← d .before .before .before .peek .ensures, ← d .before .before .mark .ensures, ← d .before .number .ensures) (d .if1 .taken) in
+    rw (
+      ← s .skip-spaces .ensures,
+      mark-is (a .args .mode) (a .args .limit) (a .args .text .now) (s .skip-spaces .result) n,
+      ← d .before .before .before .peek .ensures,
+      ← d .before .before .mark .ensures,
+      ← c .mark-lexeme .ensures,
+    )
+
 sub-lex-one : tie.Need-sub-lex-one
-sub-lex-one c = rw (c .skip-spaces .ensures) (start-le _ _ (c .before .before .pre .0))
+sub-lex-one c =
+    let s = c .before .before .before .before in
+    rw (s .skip-spaces .ensures) (start-le _ _ (s .before .before .pre .0))
 
 part-lex-one-start : tie.Need-part-lex-one-start
-part-lex-one-start c = rw (c .skip-spaces .ensures) (start-le _ _ (c .before .before .pre .0))
+part-lex-one-start c =
+    let s = c .before .before .before .before in
+    rw (s .skip-spaces .ensures) (start-le _ _ (s .before .before .pre .0))
 
 part-lex-one-end : tie.Need-part-lex-one-end
 part-lex-one-end c = search needs
 
 lex-one-requires : tie.Need-lex-one-requires
 lex-one-requires c κs =
-    let b = c .before in
-    let p = b .before .before .pre in
-    from-quote _ _ (p .1) (rw (b .skip-spaces .ensures) (start-le _ _ (p .0)))
+    let s = c .before .before .before .before .before in
+    let p = s .before .before .pre in
+    from-quote _ _ (p .1) (rw (s .skip-spaces .ensures) (start-le _ _ (p .0)))
 
-returns : tie.Need-returns
+returns-2 : tie.Need-returns-2
 unfolding foundAt
-returns c = rw (← c .before .before .skip-spaces .ensures, rw rest-is at (c .lex-one .ensures))
+returns-2 c = rw (← c .before .before .before .before .before .before .skip-spaces .ensures, rw rest-is at (c .lex-one .ensures))
 
 pub next-lexeme-spec : {M : Type 1} → statement M
 next-lexeme-spec =
     tie.close
     (tie.spec
     skip-spaces-requires
+    peek-requires
+    mark-requires
+    number-requires
+    mark-lexeme-requires
+    returns
     sub-lex-one
     part-lex-one-start
     part-lex-one-end
     lex-one-requires
-    returns)
+    returns-2)

@@ -22,8 +22,8 @@ loop-holds c =
     let a = c .before .before .before in
     passing-start (a .args .mode) (a .args .limit) (a .args .text .now) (a .args .tokens .now) (a .args .strings .now) (a .args .reports .now) (c .first .result) (c .first .ensures) (a .pre .0)
 
-next-token-requires : tie.Need-next-token-requires Inv-loop μ-loop
-next-token-requires c κs = (c .loop .inv .writing .walkable, c .before .before .before .before .pre .1)
+each-token-requires : tie.Need-each-token-requires Inv-loop μ-loop
+each-token-requires c κs = (c .loop .inv .writing .walkable, c .before .before .before .before .pre .1)
 
 mul-i : tie.Need-mul-i Inv-loop μ-loop
 mul-i c =
@@ -38,13 +38,13 @@ mul-j c =
 put-token-requires : tie.Need-put-token-requires Inv-loop μ-loop
 put-token-requires c κs =
     let n = c .before .before .before in
-    token-room (n .before .loop .inv) (n .next-token .ensures) (λ k. n .before .before .before .before .shared-slice-known .given k .fits)
+    token-room (n .before .loop .inv) (n .each-token .ensures) (λ k. n .before .before .before .before .shared-slice-known .given k .fits)
 
 add-n : tie.Need-add-n Inv-loop μ-loop
 add-n c =
     let n = c .before .before .before .before .before .before .before .before in
     let w = n .before .loop .inv in
-    record { fits = omega (arith, passing-few w (n .next-token .ensures), w .writing .walkable .short) }
+    record { fits = omega (arith, passing-few w (n .each-token .ensures), w .writing .walkable .short) }
 
 number-requires : tie.Need-number-requires Inv-loop μ-loop
 number-requires c κs = search needs
@@ -53,25 +53,25 @@ same-length : tie.Need-same-length Inv-loop μ-loop
 same-length c =
     let q = c .before .before .before .before .before .before in
     let n = q .before .before .before .before in
-    passing-lengths (n .before .loop .inv) (n .next-token .ensures) (q .put-token .ensures) .0
+    passing-lengths (n .before .loop .inv) (n .each-token .ensures) (q .put-token .ensures) .0
 
 same-length-2 : tie.Need-same-length-2 Inv-loop μ-loop
 same-length-2 c =
     let q = c .before .before .before .before .before .before in
     let n = q .before .before .before .before in
-    passing-lengths (n .before .loop .inv) (n .next-token .ensures) (q .put-token .ensures) .1
+    passing-lengths (n .before .loop .inv) (n .each-token .ensures) (q .put-token .ensures) .1
 
 same-length-3 : tie.Need-same-length-3 Inv-loop μ-loop
 same-length-3 c =
     let q = c .before .before .before .before .before .before in
     let n = q .before .before .before .before in
-    passing-lengths (n .before .loop .inv) (n .next-token .ensures) (q .put-token .ensures) .2
+    passing-lengths (n .before .loop .inv) (n .each-token .ensures) (q .put-token .ensures) .2
 
 returns : tie.Need-returns Inv-loop μ-loop
 returns c =
     let q = c .before .before .before .before .before .before in
     let n = q .before .before .before .before in
-    passing-end (n .before .loop .inv) (n .next-token .ensures) (q .put-token .ensures) (sym (c .before .number .ensures) ∙ c .if1 .taken)
+    passing-end (n .before .loop .inv) (n .each-token .ensures) (q .put-token .ensures) (sym (c .before .number .ensures) ∙ c .if1 .taken)
 
 string-size-requires : tie.Need-string-size-requires Inv-loop μ-loop
 string-size-requires c κs = search needs
@@ -80,25 +80,25 @@ add-m : tie.Need-add-m Inv-loop μ-loop
 add-m c =
     let n = c .before .before .before .before .before .before .before .before .before .before .before in
     let w = n .before .loop .inv in
-    record { fits = omega (arith, c .string-size .ensures, passing-few w (n .next-token .ensures), w .writing .walkable .short) }
+    record { fits = omega (arith, c .string-size .ensures, passing-few w (n .each-token .ensures), w .writing .walkable .short) }
 
 add-k : tie.Need-add-k Inv-loop μ-loop
 add-k c =
     let n = c .before .before .before .before .before .before .before .before .before .before .before .before in
     let w = n .before .loop .inv in
-    record { fits = omega (arith, passing-few w (n .next-token .ensures), w .writing .walkable .short) }
+    record { fits = omega (arith, passing-few w (n .each-token .ensures), w .writing .walkable .short) }
 
 loop-less : tie.Need-loop-less Inv-loop μ-loop
 loop-less c =
     let n = c .before .before .before .before .before .before .before .before .before .before .before .before .before in
-    passing-less (n .before .loop .inv) (n .next-token .ensures) (λ z. c .before .before .before .if1 .left (c .before .before .before .before .number .ensures ∙ z))
+    passing-less (n .before .loop .inv) (n .each-token .ensures) (λ z. c .before .before .before .if1 .left (c .before .before .before .before .number .ensures ∙ z))
 
 loop-again : tie.Need-loop-again Inv-loop μ-loop
 loop-again c =
     let q = c .before .before .before .before .before .before .before .before .before in
     let n = q .before .before .before .before in
     rw (c .before .before .string-size .ensures)
-    (passing-turn (n .before .loop .inv) (n .next-token .ensures) (q .put-token .ensures) (λ z. c .before .before .before .if1 .left (c .before .before .before .before .number .ensures ∙ z)))
+    (passing-turn (n .before .loop .inv) (n .each-token .ensures) (q .put-token .ensures) (λ z. c .before .before .before .if1 .left (c .before .before .before .before .number .ensures ∙ z)))
 
 pub write-spec : {M : Type 1} → statement M
 write-spec =
@@ -108,7 +108,7 @@ write-spec =
     μ-loop
     first-requires
     loop-holds
-    next-token-requires
+    each-token-requires
     mul-i
     mul-j
     put-token-requires

@@ -1,9 +1,12 @@
--- `lex_number` meets its contract: each return is a case of the definition. Assumes nothing.
+-- `lex_number` meets its contract: each return is a case of the definition; only after a sign are `inf` and a digit looked for. Assumes nothing.
+use mathlib.Core.Path.{_≡_}
+use mathlib.Core.Bool.{true, false, _||_}
+use mathlib.Core.Logic.{⊎-elim}
 use Prim.Native.Nat.{zero-le}
 use lib.Dec.{eqb}
 use borrow.Author.Tests.{ne-eqb}
 use borrow.Author.Needs.{needs}
-use Rattle.base.proofs.Tests.{as-number, pick-le}
+use Rattle.base.proofs.Tests.{as-number, pick-le, or-left, or-right}
 use Rattle.scan.specs.Number.{lexNumber}
 use Rattle.scan.proofs.number.lex_number.Statement.{statement}
 use Rattle.scan.proofs.number.lex_number.Tie as tie
@@ -19,7 +22,9 @@ whole-requires c κs = search needs
 
 returns : tie.Need-returns
 unfolding lexNumber
-returns c = rw (← c .before .before .before .peek .ensures, ← c .before .before .at-inf .ensures, c .before .if1 .taken) (c .whole .ensures)
+returns c =
+    let b = c .before .before in
+    rw (← b .before .before .peek .ensures, ← b .at-inf .ensures, b .before .if1 .taken, c .before .if2 .taken) (c .whole .ensures)
 
 illegal-requires : tie.Need-illegal-requires
 illegal-requires c κs = search needs
@@ -28,7 +33,7 @@ returns-2 : tie.Need-returns-2
 unfolding lexNumber
 returns-2 c =
     let b = c .before .before .before in
-    rw (← b .before .peek .ensures, ← b .at-inf .ensures, c .before .before .if1 .left, c .before .if2 .taken) (c .illegal .ensures)
+    rw (← b .before .before .peek .ensures, ← b .at-inf .ensures, b .before .if1 .taken, c .before .before .if2 .left, c .before .if3 .taken) (c .illegal .ensures)
 
 peek-requires-2 : tie.Need-peek-requires-2
 peek-requires-2 c κs = search needs
@@ -42,16 +47,20 @@ illegal-requires-2 c κs = search needs
 returns-3 : tie.Need-returns-3
 unfolding lexNumber
 returns-3 c =
-    let i = c .before .before in
-    let b = i .before .before .before .before in
+    let d = c .before .before .before in
+    let b = d .before .before .before in
+    let p = b .before .before .peek in
+    let q : eqb (p .result) 43 ≡ false = ne-eqb _ _ (d .before .if3 .left) in
+    let t : eqb (p .result) 45 ≡ true = rw q at (b .before .if1 .taken) in
     rw (
-      ← b .before .peek .ensures,
+      ← p .ensures,
+      q,
+      t,
       ← b .at-inf .ensures,
-      i .before .before .before .if1 .left,
-      ne-eqb _ _ (i .before .before .if2 .left),
-      ← i .before .peek2 .ensures,
-      ← i .is-digit .ensures,
-      c .before .if3 .taken,
+      d .before .before .if2 .left,
+      ← d .peek2 .ensures,
+      ← c .before .before .is-digit .ensures,
+      c .before .if4 .taken,
     )
     (c .illegal2 .ensures)
 
@@ -60,25 +69,33 @@ cast-lex-digits c = search needs
 
 lex-digits-requires : tie.Need-lex-digits-requires
 lex-digits-requires c κs =
-    let b = c .before .before .before .before .before .before in
-    rw (as-number _) (pick-le (eqb (b .peek .result) 45) (b .before .before .pre) zero-le)
+    let r = c .before .peek .result in
+    rw (as-number _) (pick-le (eqb r 43 || eqb r 45) (c .before .before .before .pre) zero-le)
 
 returns-4 : tie.Need-returns-4
 unfolding lexNumber
 returns-4 c =
-    let i = c .before .before in
-    let b = i .before .before .before .before in
+    let p = c .before .before .peek in
+    ⊎-elim
+    (λ w.
+    let q : eqb (p .result) 43 ≡ false = ne-eqb _ _ (w .3 .left) in
+    let t : eqb (p .result) 45 ≡ true = rw q at (w .0 .taken) in
     rw (
-      ← b .before .peek .ensures,
-      ← b .at-inf .ensures,
-      i .before .before .before .if1 .left,
-      ne-eqb _ _ (i .before .before .if2 .left),
-      ← i .before .peek2 .ensures,
-      ← i .is-digit .ensures,
-      c .before .if3 .left,
-      ← as-number _,
+      ← p .ensures,
+      q,
+      t,
+      ← w .1 .ensures,
+      w .2 .left,
+      ← w .4 .ensures,
+      ← w .5 .ensures,
+      w .6 .left,
     )
-    (c .lex-digits .ensures)
+    (rw (q, t) at (c .lex-digits .ensures)))
+    (λ w.
+    let q : eqb (p .result) 43 ≡ false = or-left (eqb (p .result) 43) (eqb (p .result) 45) (w .left) in
+    let t : eqb (p .result) 45 ≡ false = or-right (eqb (p .result) 43) (eqb (p .result) 45) (w .left) in
+    rw (← p .ensures, q, t) (rw (q, t) at (c .lex-digits .ensures)))
+    (c .before .if1 .came)
 
 pub lex-number-spec : {M : Type 1} → statement M
 lex-number-spec =

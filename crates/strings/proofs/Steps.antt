@@ -1,11 +1,11 @@
 -- What `step_at`, `feed`, `put` and the scans of runs return. Assumes nothing.
-use mathlib.Core.Path.{_≡_, refl, sym, ap, _∙_, subst}
-use mathlib.Core.Bool.{Bool, true, false, not, _&&_, and-true}
+use mathlib.Core.Path.{_≡_, sym, _∙_, subst}
+use mathlib.Core.Bool.{Bool, true, false}
 use mathlib.Core.List.{List, [], _∷_}
 use Prim.Native.Nat.{ℕ, suc, _+_, _-_, _^_, _≤_, _<_}
 use native.Mathlib.Numerals.{add-one}
 use native.Mathlib.Omega.{arith}
-use borrow.Author.Tests.{eq-eqb, ne-eqb, not-true, not-false}
+use borrow.Author.Tests.{eq-eqb, ne-eqb}
 use lib.Dec.{eqb}
 use lib.ListN.{length, drop, take, set, length-drop}
 use lib.Seq.{sets}
@@ -14,15 +14,12 @@ use mir.Val.{Fits}
 use Rattle.base.specs.Choice.{pick}
 use Rattle.base.specs.Bytes.{byte}
 use Rattle.base.specs.Runs.{reach}
-use Rattle.base.specs.Blocks.{allPass, isNot}
-use Rattle.base.proofs.Tests.{and-false}
 use Rattle.base.proofs.Reaches.{rest-is, reach-step, reach-stop, reach-end}
 use Rattle.utf8.specs.State.{push, pushAll}
 use Rattle.utf8.specs.declared.state.State.{State}
 use Rattle.lexeme.specs.declared.Mode.{Mode}
 use Rattle.lexeme.specs.declared.Mode.the-variants.{Strict, Tolerant}
 use Rattle.strings.specs.Piece.{pieceOf}
-use Rattle.strings.specs.Plain.{isOrdinary}
 use Rattle.strings.specs.Decode.{stepOf}
 use Rattle.strings.specs.declared.piece.Piece.{Piece}
 use Rattle.strings.specs.declared.piece.Piece.the-variants as piece
@@ -143,33 +140,3 @@ module _ (f : ℕ → Bool) (s : List ℕ) (i e : ℕ) (inv : reach (λ (a b : �
 
   pub scan-end : length s ≤ e → e ≡ reach (λ (a b : ℕ). f a) s i
   scan-end h = sym (reach-end (λ (a b : ℕ). f a) s e h) ∙ inv
-
--- a test of two parts passes all bytes where each part does
-both-both : (a b c d : Bool) → (a && b) && (c && d) ≡ (a && c) && (b && d)
-both-both true true c d = refl
-both-both true false c d = rw (and-false c)
-both-both false b c d = refl
-
-all-both : (f g : ℕ → Bool) (s : List ℕ) → allPass (λ (a : ℕ). f a && g a) s ≡ allPass f s && allPass g s
-unfolding allPass
-all-both f g [] = refl
-all-both f g (a ∷ s) = rw (all-both f g s) (both-both (f a) (g a) (allPass f s) (allPass g s))
-
--- `all_ordinary`
-module _ (s : List ℕ) where
-  ordinary-all : allPass isOrdinary s ≡ (allPass (isNot 0x22) s && allPass (isNot 0x0A) s) && allPass (isNot 0x5C) s
-  unfolding isOrdinary
-  ordinary-all =
-      all-both (λ (a : ℕ). isNot 0x22 a && isNot 0x0A a) (isNot 0x5C) s
-      ∙ ap (λ (b : Bool). b && allPass (isNot 0x5C) s) (all-both (isNot 0x22) (isNot 0x0A) s)
-
-  module _ (x : Bool) (e : x ≡ allPass (isNot 0x22) s) where
-    pub some-quote : not x ≡ true → false ≡ allPass isOrdinary s
-    some-quote f = rw (ordinary-all, ← e, not-true x f)
-
-    module _ (f : not x ≡ false) (y : Bool) (g : y ≡ allPass (isNot 0x5C) s) where
-      pub some-backslash : not y ≡ true → false ≡ allPass isOrdinary s
-      some-backslash h = rw (ordinary-all, ← g, not-true y h, and-false)
-
-      pub all-others : not y ≡ false → (z : Bool) → z ≡ allPass (isNot 0x0A) s → z ≡ allPass isOrdinary s
-      all-others h z k = rw (ordinary-all, ← e, not-false x f, ← g, not-false y h, ← k, and-true)

@@ -9,7 +9,7 @@ ghost use lib.Seq.{sets};
 ghost use Rattle.base.specs.Choice.{pick};
 ghost use Rattle.base.specs.Bytes.{byte};
 ghost use Rattle.base.specs.Runs.{run, reach};
-ghost use Rattle.base.specs.Blocks.{allPass, Ahead};
+ghost use Rattle.base.specs.Blocks.{Ahead};
 ghost use Rattle.utf8.specs.Grammar.{Octets};
 ghost use Rattle.utf8.specs.State.{fresh, pushAll};
 ghost use Rattle.strings.specs.Piece.{pieceOf};
@@ -19,10 +19,8 @@ ghost use Rattle.strings.specs.Literal.{literalOf};
 use crate::digit::simple;
 use crate::piece::Piece;
 use crate::piece::next_piece;
-use base::find::BLOCK;
 use base::find::WINDOW;
 use base::find::earlier;
-use base::find::lacks;
 use lexeme::Mode;
 use utf8::check::is_inside;
 use utf8::state::State;
@@ -189,19 +187,6 @@ fn is_ordinary(b: u8) -> bool
     (b != b'"') & (b != b'\n') & (b != b'\\')
 }
 
-// Whether all bytes stand for themselves. Each test is a loop of its own, which tests several bytes by one instruction.
-fn all_ordinary(s: &[u8]) -> bool
-    ensures { λ r. ⌜ r ≡ allPass isOrdinary (now (s .entry)) ⌝ }
-{
-    if !lacks(s, b'"') {
-        return false;
-    }
-    if !lacks(s, b'\\') {
-        return false;
-    }
-    lacks(s, b'\n')
-}
-
 // How many bytes at the front of a window stand for themselves.
 fn ordinary_count(s: &[u8]) -> usize
     requires { ⌜ length (now s) ≤ 255 ⌝ }
@@ -217,19 +202,7 @@ fn ordinary_count(s: &[u8]) -> usize
     m as usize
 }
 
-// The end of the bytes in the window at i that stand for themselves, where there is a whole one.
-fn past_window(s: &[u8], i: usize) -> usize
-    requires { ⌜ i ≤ length (now s) ⌝ }
-    ensures { λ r. ⌜ Ahead inOrdinary (now (s .entry)) i r ⌝ }
-{
-    if s.len() - i < WINDOW {
-        return i;
-    }
-    let end = i + WINDOW;
-    i + ordinary_count(&s[i..end])
-}
-
-// The end of the blocks from i on of bytes that stand for themselves, and of such bytes in the window after them. Where escapes follow each
+// The end of the windows from i on of bytes that stand for themselves, and of such bytes in the window after them. Where escapes follow each
 // other there are none, and the first byte says it.
 fn past_ordinary(s: &[u8], i: usize) -> usize
     requires { ⌜ i ≤ length (now s) ⌝ }
@@ -239,12 +212,13 @@ fn past_ordinary(s: &[u8], i: usize) -> usize
         return i;
     }
     let mut e = i;
-    while BLOCK <= s.len() - e {
-        let end = e + BLOCK;
-        if !all_ordinary(&s[e..end]) {
-            return past_window(s, e);
+    while WINDOW <= s.len() - e {
+        let end = e + WINDOW;
+        let n = ordinary_count(&s[e..end]);
+        e += n;
+        if n != WINDOW {
+            return e;
         }
-        e = end;
     }
     e
 }

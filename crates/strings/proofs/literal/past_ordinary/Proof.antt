@@ -1,10 +1,11 @@
--- `past_ordinary` meets its contract: a block of bytes that stand for themselves stays in the run, and so do those of the window after them. Assumes nothing.
+-- `past_ordinary` meets its contract: the bytes of a window that stand for themselves are in the run. Assumes nothing.
 use Prim.Native.Nat.{_-_}
+use native.Mathlib.Omega.{arith}
 use lib.ListN.{length}
 use Rattle.base.specs.Blocks.{Ahead}
-use Rattle.base.proofs.Blocks.{ahead-first, ahead-then, ahead-block}
+use Rattle.base.proofs.Blocks.{ahead-first}
+use Rattle.base.proofs.Windows.{ahead-window}
 use Rattle.strings.specs.Plain.{isOrdinary, inOrdinary}
-use borrow.Author.Tests.{not-false}
 use borrow.Author.Needs.{needs}
 use Rattle.strings.proofs.literal.past_ordinary.Statement.{statement}
 use Rattle.strings.proofs.literal.past_ordinary.Tie as tie
@@ -33,31 +34,29 @@ sub-loop c = search needs
 add-end : tie.Need-add-end Inv-loop μ-loop
 add-end c = search needs
 
-sub-all-ordinary : tie.Need-sub-all-ordinary Inv-loop μ-loop
-sub-all-ordinary c = search needs
+sub-ordinary-count : tie.Need-sub-ordinary-count Inv-loop μ-loop
+sub-ordinary-count c = search needs
 
-part-all-ordinary-start : tie.Need-part-all-ordinary-start Inv-loop μ-loop
-part-all-ordinary-start c = search needs
+part-ordinary-count-start : tie.Need-part-ordinary-count-start Inv-loop μ-loop
+part-ordinary-count-start c = search needs
 
-part-all-ordinary-end : tie.Need-part-all-ordinary-end Inv-loop μ-loop
-part-all-ordinary-end c = search needs
+part-ordinary-count-end : tie.Need-part-ordinary-count-end Inv-loop μ-loop
+part-ordinary-count-end c = search needs
 
-all-ordinary-requires : tie.Need-all-ordinary-requires Inv-loop μ-loop
-all-ordinary-requires c κs = search needs
+ordinary-count-requires : tie.Need-ordinary-count-requires Inv-loop μ-loop
+ordinary-count-requires c κs = search needs
 
-past-window-requires : tie.Need-past-window-requires Inv-loop μ-loop
-past-window-requires c κs = search needs
+add-e : tie.Need-add-e Inv-loop μ-loop
+add-e c = let b = c .before .before in omega (arith, ahead-window isOrdinary _ _ _ _ (b .before .loop .inv) (b .loop-test .taken) _ (c .ordinary-count .ensures) .inside)
 
 returns-2 : tie.Need-returns-2 Inv-loop μ-loop
-returns-2 c = search ahead-then
+returns-2 c = search (ahead-window isOrdinary)
 
 loop-less : tie.Need-loop-less Inv-loop μ-loop
 loop-less c = search needs
 
 loop-again : tie.Need-loop-again Inv-loop μ-loop
-loop-again c =
-    let b = c .before .before .before in
-    ahead-block isOrdinary inOrdinary (λ a n e. e) _ _ _ _ (b .before .loop .inv) (b .loop-test .taken) _ (c .before .all-ordinary .ensures) (not-false _ (c .if2 .left))
+loop-again c = search (ahead-window isOrdinary)
 
 returns-3 : tie.Need-returns-3 Inv-loop μ-loop
 returns-3 c = search needs
@@ -74,11 +73,11 @@ past-ordinary-spec =
     loop-holds
     sub-loop
     add-end
-    sub-all-ordinary
-    part-all-ordinary-start
-    part-all-ordinary-end
-    all-ordinary-requires
-    past-window-requires
+    sub-ordinary-count
+    part-ordinary-count-start
+    part-ordinary-count-end
+    ordinary-count-requires
+    add-e
     returns-2
     loop-less
     loop-again

@@ -81,7 +81,7 @@ module _ (m : Mode) (at : ℕ) (l : List ℕ) (e : End) (named : Named m l e) (f
 
 apt : (m : Mode) (at : ℕ) (l : List ℕ) (q : Piece) → Fine l q → Apt m at l (stepOf m at q)
 unfolding stepOf endReason
-apt m at l (piece.Bytes n a b c d used) f = record { taken = f; small = lit≤ tt; named = λ z. absurd (z refl) }
+apt m at l (piece.Bytes n a b c d used) f = record { taken = f .bytes; small = lit≤ tt; named = λ z. absurd (z refl) }
 apt Tolerant at l (piece.Bad reason letter used) f = record { taken = f .bytes; small = f .high; named = λ _. f .named }
 apt Strict at l (piece.Bad reason letter used) f =
     let k : at + used - at ≡ used = omega arith in (

@@ -1,5 +1,6 @@
--- What every piece has: it takes at least one byte and no more than there are, and gives no more bytes than it takes; a bad escape's letter
--- stands after the backslash, and an ASCII byte before its end, where its reason is not 9. By cases on the tests. Assumes nothing.
+-- What every piece has: it takes at least one byte and no more than there are, and gives fewer bytes than it takes or one that stands for
+-- itself; a bad escape's letter stands after the backslash, and an ASCII byte before its end, where its reason is not 9. By cases on the
+-- tests. Assumes nothing.
 use mathlib.Core.Path.{_≡_, refl, sym}
 use mathlib.Core.Bool.{Bool, true, false, _&&_}
 use mathlib.Core.List.{List, [], _∷_}
@@ -27,6 +28,14 @@ pub record Taken (n used m : ℕ) : Type 0 where
 taken : (n used m : ℕ) → 1 ≤ used → used ≤ m → n ≤ used → n ≤ 4 → Taken n used m
 taken n used m a b c d = record { some = a; left = b; less = c; four = d }
 
+-- n bytes, the first being a, out of the first `used` of l: as many as these only where it is one that stands for itself
+pub record Given (l : List ℕ) (n a used : ℕ) : Type 0 where
+  pub bytes : Taken n used (length l)
+  pub own : n ≡ used → (used ≡ 1) × (a ≡ byte l 0)
+
+escaped : (l : List ℕ) (n a used : ℕ) → Taken n used (length l) → n < used → Given l n a used
+escaped l n a used t h = record { bytes = t; own = λ e. absurd (omega arith) }
+
 -- a bad escape of `used` bytes at the front of l
 pub record Refused (l : List ℕ) (reason letter used : ℕ) : Type 0 where
   pub bytes : Taken 2 used (length l)
@@ -45,7 +54,7 @@ pub record Front (l : List ℕ) : Type 0 where
   pub ascii : byte l 0 < 0x80
 
 abbrev pub Fine : List ℕ → Piece → Type 0
-Fine l (Bytes n a b c d used) = Taken n used (length l)
+Fine l (Bytes n a b c d used) = Given l n a used
 Fine l (Bad reason letter used) = Refused l reason letter used
 Fine l Close = Front l
 Fine l Newline = Front l
@@ -109,15 +118,15 @@ module _ (t : List ℕ) (two : 1 < length t) where
   bad-2 : (reason letter : ℕ) → 5 ≤ reason → reason ≤ 9 → letter ≡ byte t 1 → ((reason ≡ 9 → ⊥) → byte t 1 < 0x80) → Fine t (Bad reason letter 2)
   bad-2 reason letter a b n e = refused t reason letter 2 (taken 2 2 (length t) (lit≤ tt) two (lit≤ tt) (lit≤ tt)) a b n e
 
-  one-4 : 3 < length t → Taken 1 4 (length t)
-  one-4 h = taken 1 4 (length t) (lit≤ tt) h (lit≤ tt) (lit≤ tt)
+  one-4 : (a : ℕ) → 3 < length t → Given t 1 a 4
+  one-4 a h = escaped t 1 a 4 (taken 1 4 (length t) (lit≤ tt) h (lit≤ tt) (lit≤ tt)) (lit≤ tt)
 
   fine-hex : byte t 1 ≡ 0x78 → Fine t (hexPiece t)
   unfolding hexPiece
   fine-hex x =
       let a = ltb (hexOf (byte t 2)) 16 in
       let b = ltb (hexOf (byte t 3)) 16 in
-      fine-pick t (a && b) _ _ (λ e. one-4 (in-text (λ (c : ℕ). ltb (hexOf c) 16) t 3 hex-zero (and-right a b e)))
+      fine-pick t (a && b) _ _ (λ e. one-4 _ (in-text (λ (c : ℕ). ltb (hexOf c) 16) t 3 hex-zero (and-right a b e)))
       (λ _. bad-2 5 0x78 (lit≤ tt) (lit≤ tt) (sym x) (λ _. omega arith))
 
   fine-oct : byte t 1 < 0x80 → Fine t (octPiece (byte t 1) t)
@@ -125,7 +134,7 @@ module _ (t : List ℕ) (two : 1 < length t) where
   fine-oct h =
       let a = ltb (octOf (byte t 2)) 8 in
       let b = ltb (octOf (byte t 3)) 8 in
-      fine-pick t (a && b) _ _ (λ e. one-4 (in-text (λ (c : ℕ). ltb (octOf c) 8) t 3 oct-zero (and-right a b e)))
+      fine-pick t (a && b) _ _ (λ e. one-4 _ (in-text (λ (c : ℕ). ltb (octOf c) 8) t 3 oct-zero (and-right a b e)))
       (λ _. bad-2 6 (byte t 1) (lit≤ tt) (lit≤ tt) refl (λ _. h))
 
   -- what stands before the end of the digits that are counted
@@ -138,7 +147,7 @@ module _ (t : List ℕ) (two : 1 < length t) where
           let j : suc k + 2 - 1 ≡ 2 + k = omega arith in
           rw (j, ← getD-drop 2 t k 0) (count-last n (drop 2 t) k e)
 
-  fine-code : (n reason letter : ℕ) → 2 ≤ n → 5 ≤ reason → reason ≤ 8 → letter ≡ byte t 1 → byte t 1 < 0x80 → Fine t (codePiece n reason letter (drop 2 t))
+  fine-code : (n reason letter : ℕ) → 3 ≤ n → 5 ≤ reason → reason ≤ 8 → letter ≡ byte t 1 → byte t 1 < 0x80 → Fine t (codePiece n reason letter (drop 2 t))
   unfolding codePiece
   fine-code n reason letter h lo hi nm ascii =
       let l = drop 2 t in
@@ -150,7 +159,9 @@ module _ (t : List ℕ) (two : 1 < length t) where
       (λ e. let b : n ≤ length l = ltb-false (length l) n e in
       fine-pick t (ltb (hexCount n l) n) _ _ (λ _. bad b)
       (λ f. fine-pick t (isScalar (hexValue n 0 l)) _ _
-      (λ _. taken _ (n + 2) (length t) (omega arith) (omega (arith, length-drop 2 t)) (omega (arith, encode-le (hexValue n 0 l))) (encode-le (hexValue n 0 l)))
+      (λ _. escaped t _ _ (n + 2)
+      (taken _ (n + 2) (length t) (omega arith) (omega (arith, length-drop 2 t)) (omega (arith, encode-le (hexValue n 0 l))) (encode-le (hexValue n 0 l)))
+      (omega (arith, encode-le (hexValue n 0 l))))
       (λ _. let q : hexCount n l ≡ n = omega (arith, count-le n l, ltb-false (hexCount n l) n f) in rw q at (bad b))))
 
   fine-escape : Fine t (escapePiece t)
@@ -165,7 +176,7 @@ module _ (t : List ℕ) (two : 1 < length t) where
       (λ x. let q = eqb-true e 0x55 x in fine-code 8 8 0x55 (lit≤ tt) (lit≤ tt) (lit≤ tt) (sym q) (omega arith))
       (λ _. fine-pick t (within 48 51 e) _ _ (λ x. let q = within-high 48 51 e x in fine-oct (omega arith))
       (λ _. bad-2 9 e (lit≤ tt) (lit≤ tt) refl (λ n. absurd (n refl)))))))
-      (λ _. taken 1 2 (length t) (lit≤ tt) two (lit≤ tt) (lit≤ tt))
+      (λ _. escaped t 1 _ 2 (taken 1 2 (length t) (lit≤ tt) two (lit≤ tt) (lit≤ tt)) (lit≤ tt))
 
 front : (c : ℕ) (l : List ℕ) (k : ℕ) → eqb c k ≡ true → k < 0x80 → Front (c ∷ l)
 front c l k e h = let q = eqb-true c k e in record { some = omega arith; ascii = omega arith }
@@ -180,4 +191,4 @@ fine (c ∷ l) =
     (λ _. fine-pick t (eqb c 0x5C) _ _
     (λ s. fine-pick t (eqb (length l) 0) _ _ (λ _. front c l 0x5C s (omega arith))
     (λ e. let n : length l ≡ 0 → ⊥ = eqb-false (length l) 0 e in fine-escape t (omega arith)))
-    (λ _. taken 1 1 (length t) (lit≤ tt) (omega arith) (lit≤ tt) (lit≤ tt))))
+    (λ _. record { bytes = taken 1 1 (length t) (lit≤ tt) (omega arith) (lit≤ tt) (lit≤ tt); own = λ _. (refl, refl) })))

@@ -25,8 +25,8 @@ use Rattle.lexeme.specs.declared.Lexeme.{Lexeme}
 use Rattle.lexeme.specs.declared.Mode.{Mode}
 use Rattle.lexeme.specs.declared.Mode.the-variants.{Strict, Tolerant}
 use Rattle.lexeme.proofs.Within.{Within, extent-within}
-use Rattle.strings.specs.Decode.{Decoded, letterDetail, stepNotes}
-use Rattle.strings.specs.Literal.{wellFormed, literalOf, endReason, literalReason, endDetail, endOf, endNotes, literalNotes, illegalLiteral, lexString, stringBytes, stringNotes}
+use Rattle.strings.specs.Decode.{Decoded, letterDetail, stepNotes, decode}
+use Rattle.strings.specs.Literal.{wellFormed, literalOf, endReason, literalReason, endDetail, endOf, endNotes, literalNotes, illegalLiteral, lexString, Sized, stringBytes, stringNotes}
 use Rattle.strings.specs.declared.literal.End.{End}
 use Rattle.strings.specs.declared.literal.End.the-variants as end
 use Rattle.strings.proofs.Fine.{Taken}
@@ -72,7 +72,27 @@ unreasoned : (d : Decoded) → literalReason Strict d ≡ 0 → endReason (d .en
 unfolding literalReason
 unreasoned d z = sound-pick (eqb (endReason (d .ending)) 0) (wellFormed (d .bytes)) (endReason (d .ending)) refl z
 
--- so a String's ending is no bad escape
+-- so a strict String is closed
+named-closed : (l : List ℕ) (e : End) → Named Strict l e → endReason e ≡ 0 → e ≡ end.Closed
+unfolding endReason
+named-closed l end.Closed n z = refl
+named-closed l end.AtNewline n z = absurd (omega arith)
+named-closed l end.Cut n z = absurd (omega arith)
+named-closed l end.Open n z = absurd (omega arith)
+named-closed l (end.Bad reason letter) n z = absurd (omega (arith, n .low))
+
+zero-closed : (s : List ℕ) → endReason (literalOf Strict s .ending) ≡ 0 → literalOf Strict s .ending ≡ end.Closed
+unfolding literalOf decode endReason
+zero-closed [] z = absurd (omega arith)
+zero-closed (x ∷ s) z =
+    by-steps Strict (x ∷ s) (λ (i : ℕ) (d : Decoded). endReason (d .ending) ≡ 0 → d .ending ≡ end.Closed)
+    (λ i e p k g u. named-closed (drop i (x ∷ s)) e (u .named)) (λ i n a b c d used reason r k w v. v) 1 (omega arith) z
+
+string-closed : (m : Mode) (s : List ℕ) → literalReason m (literalOf m s) ≡ 0 → m ≡ Strict → literalOf m s .ending ≡ end.Closed
+string-closed Strict s z e = zero-closed s (unreasoned (literalOf Strict s) z)
+string-closed Tolerant s z e = cc
+
+-- and no String's ending is a bad escape
 string-sound : (m : Mode) (s : List ℕ) → 0 < length s → literalReason m (literalOf m s) ≡ 0 → Sound s (literalOf m s .ending)
 string-sound Strict s h z = zero-sound s (literalOf Strict s .ending) (unreasoned (literalOf Strict s) z)
 string-sound Tolerant s h z = tolerant-sound s h
@@ -96,6 +116,13 @@ module _ (m : Mode) (s : List ℕ) where
 
   pub string-bytes : lexString m s .kind ≡ K.String → stringBytes m s ≡ literalOf m s .bytes
   string-bytes = by-verdict m s (λ r bs. r .kind ≡ K.String → bs ≡ literalOf m s .bytes) (λ _ _. refl) (λ _ k. cc)
+
+  -- its length and its size are those of the literal
+  pub string-sized : lexString m s .kind ≡ K.String → Sized m s (lexString m s .len) (lexString m s .size)
+  string-sized =
+      by-verdict m s (λ r bs. r .kind ≡ K.String → Sized m s (r .len) (r .size))
+      (λ z _. record { count = refl; stop = refl; closed = string-closed m s z })
+      (λ _ k. let z : _≡_ {A = ℕ} 0 1 = cc in absurd (omega arith))
 
   pub string-utf8 : Octets (stringBytes m s)
   unfolding wellFormed

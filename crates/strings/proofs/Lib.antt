@@ -6,6 +6,7 @@ pub mod Decodes
 pub mod Parts
 pub mod Turns
 pub mod Bounds
+pub mod Closings
 pub mod Judges
 pub mod Notings
 pub mod Laws

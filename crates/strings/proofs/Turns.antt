@@ -24,10 +24,11 @@ use Rattle.utf8.specs.declared.state.State.{State}
 use Rattle.utf8.proofs.States.{push-append, octets-fed}
 use Rattle.lexeme.specs.Lexeme.{Note}
 use Rattle.lexeme.specs.declared.Mode.{Mode}
+use Rattle.lexeme.specs.declared.Mode.the-variants.{Strict}
 use Rattle.strings.specs.Piece.{pieceOf}
 use Rattle.strings.specs.Plain.{inOrdinary, simpleBytes, Spells}
 use Rattle.strings.specs.Decode.{Decoded, stepOf, letterDetail, stepNotes, prepend, measured}
-use Rattle.strings.specs.Literal.{literalOf}
+use Rattle.strings.specs.Literal.{literalOf, Sized}
 use Rattle.strings.specs.declared.literal.End.{End}
 use Rattle.strings.specs.declared.literal.End.the-variants as end
 use Rattle.strings.specs.declared.literal.Step.{Step}
@@ -157,36 +158,44 @@ module _ (m : Mode) (s : List ℕ) (i count reports : ℕ) (state : State) (u : 
                 ∙ rw (length-four n a b c d (f .four), notes-count reason b e, et, ek) refl;
           }
 
--- `put_string` at i, with the next byte to go to p
-pub record Writing (m : Mode) (s out₀ : List ℕ) (place : ℕ) (out : List ℕ) (i p : ℕ) : Type 0 where
+-- `put_string` at i, with the next byte to go to p. The literal takes `len` bytes of text, and its bytes go to places before `until`
+pub record Writing (m : Mode) (s : List ℕ) (len : ℕ) (out₀ : List ℕ) (place until : ℕ) (out : List ℕ) (i p : ℕ) : Type 0 where
   pub inside : i ≤ length s
   pub same : length out ≡ length out₀
-  pub room : p + length (from m s i .bytes) ≤ length out₀
+  pub room : until ≤ length out₀
+  pub count : p + length (from m s i .bytes) ≡ until
+  pub stop : from m s i .stop ≡ len
+  pub closed : m ≡ Strict → from m s i .ending ≡ end.Closed
   pub is : sets out₀ place (from m s 1 .bytes) ≡ sets out p (from m s i .bytes)
 
-pub writing-first : (m : Mode) (s out : List ℕ) (place : ℕ) → 0 < length s → place + length (literalOf m s .bytes) ≤ length out
-    → Writing m s out place out 1 place
+pub writing-first : (m : Mode) (s : List ℕ) (len size : ℕ) (out : List ℕ) (place : ℕ) → 0 < length s → place + size ≤ length out → Sized m s len size
+    → Writing m s len out place (place + size) out 1 place
 unfolding literalOf
-writing-first m s out place h r = record { inside = h; same = refl; room = r; is = refl }
+writing-first m s len size out place h r z =
+    record { inside = h; same = refl; room = r; count = omega (arith, z .count); stop = z .stop; closed = z .closed; is = refl }
 
 -- bytes that stand at the front of what is left
-stored : (m : Mode) (s out₀ : List ℕ) (place : ℕ) (out : List ℕ) (i p : ℕ) → Writing m s out₀ place out i p
-    → (bs : List ℕ) (n j : ℕ) → length bs ≡ n → j ≤ length s → from m s i .bytes ≡ bs ++ from m s j .bytes
-    → (o : List ℕ) → o ≡ sets out p bs → Writing m s out₀ place o j (p + n)
-stored m s out₀ place out i p u bs n j l h e o q =
-    let k : length (from m s i .bytes) ≡ length bs + length (from m s j .bytes) = ap length e ∙ length-append bs (from m s j .bytes) in
+stored : (m : Mode) (s : List ℕ) (len : ℕ) (out₀ : List ℕ) (place until : ℕ) (out : List ℕ) (i p : ℕ) → Writing m s len out₀ place until out i p
+    → (bs : List ℕ) (ns : List Note) (n j : ℕ) → length bs ≡ n → j ≤ length s → from m s i ≡ prepend bs ns (from m s j)
+    → (o : List ℕ) → o ≡ sets out p bs → Writing m s len out₀ place until o j (p + n)
+stored m s len out₀ place until out i p u bs ns n j l h e o q =
+    let f : from m s i .bytes ≡ bs ++ from m s j .bytes = ap (λ (d : Decoded). d .bytes) e in
+    let k : length (from m s i .bytes) ≡ length bs + length (from m s j .bytes) = ap length f ∙ length-append bs (from m s j .bytes) in
     record {
       inside = h;
       same = ap length q ∙ length-sets out p bs ∙ u .same;
-      room = omega (arith, u .room);
-      is = u .is ∙ ap (sets out p) e ∙ sets-append out p bs (from m s j .bytes) ∙ rw (l, q) refl;
+      room = u .room;
+      count = omega (arith, u .count);
+      stop = sym (ap (λ (d : Decoded). d .stop) e) ∙ u .stop;
+      closed = λ t. sym (ap (λ (d : Decoded). d .ending) e) ∙ u .closed t;
+      is = u .is ∙ ap (sets out p) f ∙ sets-append out p bs (from m s j .bytes) ∙ rw (l, q) refl;
     }
 
-module _ (m : Mode) (s out₀ : List ℕ) (place : ℕ) (out : List ℕ) (i p : ℕ) (u : Writing m s out₀ place out i p) where
+module _ (m : Mode) (s : List ℕ) (len : ℕ) (out₀ : List ℕ) (place until : ℕ) (out : List ℕ) (i p : ℕ) (u : Writing m s len out₀ place until out i p) where
   -- a run of bytes that stand for themselves
   module _ (e : ℕ) (ee : e ≡ reach inOrdinary s i) where
-    run-bytes : from m s i .bytes ≡ take (e - i) (drop i s) ++ from m s e .bytes
-    run-bytes = rw ee (ap (λ (d : Decoded). d .bytes) (from-run m s i (u .inside)))
+    run-is : from m s i ≡ prepend (take (e - i) (drop i s)) [] (from m s e)
+    run-is = rw ee (from-run m s i (u .inside))
 
     pub run-ge : i ≤ e
     run-ge = rw ee (reach-ge inOrdinary s i)
@@ -198,10 +207,10 @@ module _ (m : Mode) (s out₀ : List ℕ) (place : ℕ) (out : List ℕ) (i p : 
     run-size = length-take-le (e - i) (drop i s) (omega (arith, length-drop i s, run-in))
 
     run-count : length (from m s i .bytes) ≡ (e - i) + length (from m s e .bytes)
-    run-count = ap length run-bytes ∙ length-append (take (e - i) (drop i s)) (from m s e .bytes) ∙ rw run-size refl
+    run-count = ap (λ (d : Decoded). length (d .bytes)) run-is ∙ length-append (take (e - i) (drop i s)) (from m s e .bytes) ∙ rw run-size refl
 
     pub copy-room : p + (e - i) ≤ length out
-    copy-room = omega (arith, run-count, u .room, u .same)
+    copy-room = omega (arith, run-count, u .count, u .room, u .same)
 
     pub copy-source : i + (e - i) ≤ length s
     copy-source = omega (arith, run-in, run-ge)
@@ -209,30 +218,29 @@ module _ (m : Mode) (s out₀ : List ℕ) (place : ℕ) (out : List ℕ) (i p : 
     pub copy-fits : length out₀ < 2 ^ 64 → Fits w64 (p + (e - i))
     copy-fits l = omega (arith, copy-room, u .same)
 
-    pub copied : (o : List ℕ) → o ≡ sets out p (take (e - i) (drop i s)) → Writing m s out₀ place o e (p + (e - i))
-    copied o eo = stored m s out₀ place out i p u (take (e - i) (drop i s)) (e - i) e run-size run-in run-bytes o eo
+    pub copied : (o : List ℕ) → o ≡ sets out p (take (e - i) (drop i s)) → Writing m s len out₀ place until o e (p + (e - i))
+    copied o eo = stored m s len out₀ place until out i p u (take (e - i) (drop i s)) [] (e - i) e run-size run-in run-is o eo
 
   -- escapes of one letter
-  simple-bytes : (n : ℕ) → n ≡ length (simpleBytes (drop i s)) → from m s i .bytes ≡ simpleBytes (drop i s) ++ from m s (i + 2 * n) .bytes
-  simple-bytes n e = ap (λ (d : Decoded). d .bytes) (from-simple m s i n e)
-
   pub simple-room : p + length (simpleBytes (drop i s)) ≤ length out
   simple-room =
       let n : ℕ = length (simpleBytes (drop i s)) in
-      omega (arith, ap length (simple-bytes n refl) ∙ length-append (simpleBytes (drop i s)) (from m s (i + 2 * n) .bytes), u .room, u .same)
+      let e : length (from m s i .bytes) ≡ length (simpleBytes (drop i s) ++ from m s (i + 2 * n) .bytes) =
+      ap (λ (d : Decoded). length (d .bytes)) (from-simple m s i n refl) in
+      omega (arith, e ∙ length-append (simpleBytes (drop i s)) (from m s (i + 2 * n) .bytes), u .count, u .room, u .same)
 
   module _ (n : ℕ) (en : n ≡ length (simpleBytes (drop i s))) (o : List ℕ) (eo : o ≡ sets out p (simpleBytes (drop i s))) where
     pub simple-in : i + 2 * n ≤ length s
     simple-in = simple-inside s i n (u .inside) en
 
-    pub unescaped : Writing m s out₀ place o (i + 2 * n) (p + n)
-    unescaped = stored m s out₀ place out i p u (simpleBytes (drop i s)) n (i + 2 * n) (sym en) simple-in (simple-bytes n en) o eo
+    pub unescaped : Writing m s len out₀ place until o (i + 2 * n) (p + n)
+    unescaped = stored m s len out₀ place until out i p u (simpleBytes (drop i s)) [] n (i + 2 * n) (sym en) simple-in (from-simple m s i n en) o eo
 
     pub simple-fits : length out₀ < 2 ^ 64 → Fits w64 (p + n)
-    simple-fits l = omega (arith, unescaped .room)
+    simple-fits l = let v = unescaped in omega (arith, v .count, v .room)
 
     -- where there are none
-    pub no-escape : n ≡ 0 → Writing m s out₀ place o i p
+    pub no-escape : n ≡ 0 → Writing m s len out₀ place until o i p
     no-escape z = rw (z, add-zero i, add-zero p) at unescaped
 
   -- a step
@@ -245,11 +253,8 @@ module _ (m : Mode) (s out₀ : List ℕ) (place : ℕ) (out : List ℕ) (i p : 
       t : Taken n used (length (drop i s))
       t = went m s i q is n a b c d used reason h .taken
 
-      bytes-go : from m s i .bytes ≡ take n (a ∷ b ∷ c ∷ d ∷ []) ++ from m s (i + used) .bytes
-      bytes-go = ap (λ (x : Decoded). x .bytes) (from-go m s i q is n a b c d used reason h)
-
       count-go : length (from m s i .bytes) ≡ n + length (from m s (i + used) .bytes)
-      count-go = rw (bytes-go, length-append, length-four n a b c d (t .four)) refl
+      count-go = rw (from-go m s i q is n a b c d used reason h, length-append, length-four n a b c d (t .four)) refl
 
       pub text-in : i + used ≤ length s
       text-in = omega (arith, t .left, length-drop i s, u .inside)
@@ -262,8 +267,9 @@ module _ (m : Mode) (s out₀ : List ℕ) (place : ℕ) (out : List ℕ) (i p : 
       put-four = t .four
 
       pub put-room : p + n ≤ length out
-      put-room = omega (arith, count-go, u .room, u .same)
+      put-room = omega (arith, count-go, u .count, u .room, u .same)
 
-      pub writing-go : (o : List ℕ) → o ≡ sets out p (take n (a ∷ b ∷ c ∷ d ∷ [])) → Writing m s out₀ place o (i + used) (p + n)
+      pub writing-go : (o : List ℕ) → o ≡ sets out p (take n (a ∷ b ∷ c ∷ d ∷ [])) → Writing m s len out₀ place until o (i + used) (p + n)
       writing-go o eo =
-          stored m s out₀ place out i p u (take n (a ∷ b ∷ c ∷ d ∷ [])) n (i + used) (length-four n a b c d (t .four)) text-in bytes-go o eo
+          stored m s len out₀ place until out i p u (take n (a ∷ b ∷ c ∷ d ∷ [])) (stepNotes reason b i) n (i + used) (length-four n a b c d (t .four)) text-in
+          (from-go m s i q is n a b c d used reason h) o eo

@@ -1,4 +1,5 @@
 -- The token that a string literal is, its decoded bytes and its reports: `lex_string` and `string_token`.
+use mathlib.Core.Path.{_≡_}
 use mathlib.Core.Bool.{Bool}
 use mathlib.Core.List.{List, [], _∷_, _++_}
 use Prim.Native.Nat.{ℕ}
@@ -80,6 +81,13 @@ literalToken m s d =
 -- the string literal at the front of s, which begins with a quote
 unfoldable pub lexString : Mode → List ℕ → Lexeme
 lexString m s = literalToken m s (literalOf m s)
+
+-- what a String of `lex_string` tells of its literal: the bytes of text that it takes, and how many it stands for. Strict, it is a String only where
+-- the closing quote is met
+pub record Sized (m : Mode) (s : List ℕ) (len size : ℕ) : Type 0 where
+  pub count : length (literalOf m s .bytes) ≡ size
+  pub stop : literalOf m s .stop ≡ len
+  pub closed : m ≡ Strict → literalOf m s .ending ≡ end.Closed
 
 -- the bytes that go to the string buffer: a String's value; an Illegal literal has none
 unfoldable pub stringBytes : Mode → List ℕ → List ℕ

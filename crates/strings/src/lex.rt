@@ -1,12 +1,13 @@
 // The token that a string literal is, and its decoded bytes. The opening quote is the first byte of the slice.
 ghost use mathlib.Core.Path.{_≡_};
+ghost use mathlib.Core.Bool.{true};
 ghost use Prim.Native.Nat.{_+_, _≤_, _<_};
 ghost use lib.ListN.{length};
 ghost use lib.Seq.{sets};
 ghost use Rattle.utf8.specs.Grammar.{Octets};
 ghost use Rattle.lexeme.specs.declared.Mode.the-variants as M;
 ghost use Rattle.strings.specs.Decode.{letterDetail};
-ghost use Rattle.strings.specs.Literal.{literalOf, endReason, endDetail, endOf, endNotes, lexString};
+ghost use Rattle.strings.specs.Literal.{literalOf, endReason, endDetail, endOf, endNotes, lexString, Sized};
 use crate::literal::End;
 use crate::literal::Step;
 use crate::literal::measure_literal;
@@ -146,18 +147,36 @@ pub fn lex_string(s: &[u8], mode: Mode) -> Lexeme
     }
 }
 
-// Writes what the literal stands for from `place` on.
-pub fn put_string(s: &[u8], mode: Mode, out: &mut [u8], place: usize)
-    requires { ⌜ (0 < length (now s)) × (place + length (literalOf mode (now s) .bytes) ≤ length (now out)) ⌝ }
+// Whether the reading is strict.
+fn is_strict(mode: Mode) -> bool
+    ensures { λ r. ⌜ (r ≡ true → mode ≡ M.Strict) ⌝ }
+{
+    match mode {
+        Mode::Strict => true,
+        Mode::Tolerant => false,
+    }
+}
+
+// Writes what the literal stands for from `place` on. It takes `len` bytes of text and stands for `size` bytes. An escape takes more bytes of
+// text than it stands for, so a strict literal, which is closed, has none from where on there is as much text as there are bytes to write.
+pub fn put_string(s: &[u8], mode: Mode, len: usize, size: usize, out: &mut [u8], place: usize)
+    requires { ⌜ (0 < length (now s)) × (place + size ≤ length (now out)) × Sized mode (now s) len size ⌝ }
     ensures { λ _. ⌜ now (out .exit) ≡ sets (now (out .entry)) place (literalOf mode (now (s .entry)) .bytes) ⌝ }
 {
+    let strict = is_strict(mode);
+    let until = place + size;
     let mut i = 1;
     let mut p = place;
     loop {
+        let left = until - p;
+        if strict & (left + 1 == len - i) {
+            base::copy(out, p, s, i, left);
+            return;
+        }
         let e = ordinary_end(s, i);
-        let size = e - i;
-        base::copy(out, p, s, i, size);
-        p += size;
+        let n = e - i;
+        base::copy(out, p, s, i, n);
+        p += n;
         if base::peek(s, e) == b'"' {
             return;
         }

@@ -91,12 +91,13 @@ module _ (t : ℕ → Bool) (p : ℕ → ℕ → Bool) (sure : (a b : ℕ) → t
       record { later = l; inside = omega arith; same = rw n at (block s (length s - i) i (omega arith) (rw (rest-is s i) f)) }
 
 -- the same of pairs
-module _ (p : ℕ → ℕ → Bool) where
-  -- n bytes from i on, each with the one after it
-  pairs : (s : List ℕ) (n i : ℕ) → i + n < length s → allPairs p (take (suc n) (drop i s)) ≡ true → reach p s (i + n) ≡ reach p s i
+module _ (p : ℕ → ℕ → Bool) (s : List ℕ) where
+  -- n bytes from i on, each with the one after it: what stays the same over one byte that passes stays so over all of them
+  pub over-pairs : (g : ℕ → ℕ) → ((i : ℕ) → i + 1 < length s → p (byte s i) (byte s (i + 1)) ≡ true → g (i + 1) ≡ g i)
+      → (n i : ℕ) → i + n < length s → allPairs p (take (suc n) (drop i s)) ≡ true → g (i + n) ≡ g i
   unfolding allPairs
-  pairs s zero i h e = rw (add-zero i)
-  pairs s (suc n) i h e =
+  over-pairs g step zero i h e = rw (add-zero i)
+  over-pairs g step (suc n) i h e =
       let l : suc i < length s = omega arith in
       let c : drop (suc i) s ≡ byte s (suc i) ∷ drop (suc (suc i)) s = drop-cons s (suc i) 0 l in
       let d : drop i s ≡ byte s i ∷ byte s (suc i) ∷ drop (suc (suc i)) s = drop-cons s i 0 (omega arith) ∙ rw c in
@@ -104,11 +105,12 @@ module _ (p : ℕ → ℕ → Bool) where
       let f : a && allPairs p (take (suc n) (drop (i + 1) s)) ≡ true = rw (add-one i, c) (rw d at e) in
       let q : i + suc n ≡ i + 1 + n = omega arith in
       let o = and-left a (allPairs p (take (suc n) (drop (i + 1) s))) f in
-      rw q (pairs s n (i + 1) (omega arith) (and-right a (allPairs p (take (suc n) (drop (i + 1) s))) f) ∙ reach-step p s i (omega arith) o)
+      rw q (over-pairs g step n (i + 1) (omega arith) (and-right a (allPairs p (take (suc n) (drop (i + 1) s))) f) ∙ step i (omega arith) o)
 
-  pub ahead-pairs : (s : List ℕ) (at i n : ℕ) → Ahead p s at i → n < length s - i → (b : Bool) → b ≡ allPairs p (take (i + n + 1 - i) (drop i s)) → b ≡ true
+  pub ahead-pairs : (at i n : ℕ) → Ahead p s at i → n < length s - i → (b : Bool) → b ≡ allPairs p (take (i + n + 1 - i) (drop i s)) → b ≡ true
       → Ahead p s at (i + n)
-  ahead-pairs s at i n u h b e y =
+  ahead-pairs at i n u h b e y =
       let z : i + n + 1 - i ≡ suc n = omega arith in
       let f : allPairs p (take (suc n) (drop i s)) ≡ true = sym (rw z at e) ∙ y in
-      record { later = omega (arith, u .later); inside = omega (arith, u .inside); same = pairs s n i (omega (arith, u .inside)) f ∙ u .same }
+      let g = over-pairs (reach p s) (λ j l o. reach-step p s j (omega arith) o) n i (omega (arith, u .inside)) f in
+      record { later = omega (arith, u .later); inside = omega (arith, u .inside); same = g ∙ u .same }

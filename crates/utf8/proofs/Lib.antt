@@ -9,6 +9,7 @@ pub mod Sizes
 pub mod States
 pub mod Settles
 pub mod Scans
+pub mod Shorts
 pub mod Codes
 pub mod RoundTrip
 pub mod Cases

@@ -16,7 +16,7 @@ use Rattle.utf8.specs.Grammar.{charSize}
 use Rattle.utf8.proofs.Chars.{ascii-size}
 
 -- a run of ASCII bytes is a run of characters
-ascii-past : (s : List ℕ) (i : ℕ) → i < length s → byte s i < 0x80 → past charSize s (i + 1) ≡ past charSize s i
+pub ascii-past : (s : List ℕ) (i : ℕ) → i < length s → byte s i < 0x80 → past charSize s (i + 1) ≡ past charSize s i
 ascii-past s i h a = past-step charSize s i 0 (omega arith) (rw (drop-cons s i 0 h) (ascii-size (byte s i) (drop (suc i) s) a))
 
 module _ (p : ℕ → ℕ → Bool) (low : (a b : ℕ) → p a b ≡ true → ltb a 128 ≡ true) (s : List ℕ) where

@@ -2,4 +2,5 @@
 pub mod ascii;
 pub mod character;
 pub mod check;
+pub mod short;
 pub mod state;

@@ -1,57 +1,38 @@
--- `check` meets its contract: the valid prefix of the text is the same from each character on. Assumes nothing.
-use Prim.Native.Nat.{_-_}
-use borrow.Author.Needs.{needs}
+-- `check` meets its contract: the valid prefix of the text is the same from each place between characters on. Assumes nothing.
+use Prim.Native.Nat.{_-_, zero-le}
 use lib.ListN.{length}
-use Rattle.utf8.proofs.Scans.{Scanning, scan-first, scan-ascii, scan-ascii-less, scan-char, scan-ill, scan-fits, scan-less, scan-end}
+use Rattle.utf8.specs.Onward.{Onward}
+use Rattle.utf8.proofs.Scans.{onward-first, scan-on, scan-ill, scan-less, scan-end}
+use borrow.Author.Needs.{needs}
 use Rattle.utf8.proofs.check.check.Statement.{statement}
 use Rattle.utf8.proofs.check.check.Tie as tie
 
 abbrev Inv-loop : tie.InvT-loop
-Inv-loop text i₀ i = Scanning text i
+Inv-loop text i₀ i = Onward text 0 i
 
 abbrev μ-loop : tie.MeasureT-loop
 μ-loop text i₀ i = length text - i
 
 loop-holds : tie.Need-loop-holds Inv-loop μ-loop
-loop-holds c = search scan-first
+loop-holds c = onward-first _ _ zero-le
 
-shared-slice-read-if1 : tie.Need-shared-slice-read-if1 Inv-loop μ-loop
-shared-slice-read-if1 c = search needs
+past-short-requires : tie.Need-past-short-requires Inv-loop μ-loop
+past-short-requires c κs = search needs
 
-past-ascii-requires : tie.Need-past-ascii-requires Inv-loop μ-loop
-past-ascii-requires c κs = search needs
+stretch-end-requires : tie.Need-stretch-end-requires Inv-loop μ-loop
+stretch-end-requires c κs = search needs
 
-loop-less : tie.Need-loop-less Inv-loop μ-loop
-loop-less c = search scan-ascii-less
-
-loop-again : tie.Need-loop-again Inv-loop μ-loop
-loop-again c = search scan-ascii
-
-sub-char-size : tie.Need-sub-char-size Inv-loop μ-loop
-sub-char-size c = search needs
-
-part-char-size-start : tie.Need-part-char-size-start Inv-loop μ-loop
-part-char-size-start c = search needs
-
-part-char-size-end : tie.Need-part-char-size-end Inv-loop μ-loop
-part-char-size-end c = search needs
-
-char-size-requires : tie.Need-char-size-requires Inv-loop μ-loop
-char-size-requires c κs = search needs
+past-chars-requires : tie.Need-past-chars-requires Inv-loop μ-loop
+past-chars-requires c κs = search needs
 
 returns : tie.Need-returns Inv-loop μ-loop
-returns c =
-    let l = c .before .before .before .before .before in
-    scan-ill _ _ (l .before .loop .inv) (l .loop-test .taken) _ (c .before .char-size .ensures) (c .if2 .taken)
+returns c = search scan-ill
 
-add-i : tie.Need-add-i Inv-loop μ-loop
-add-i c = search scan-fits
+loop-less : tie.Need-loop-less Inv-loop μ-loop
+loop-less c = search scan-less
 
-loop-less-2 : tie.Need-loop-less-2 Inv-loop μ-loop
-loop-less-2 c = search scan-less
-
-loop-again-2 : tie.Need-loop-again-2 Inv-loop μ-loop
-loop-again-2 c = search scan-char
+loop-again : tie.Need-loop-again Inv-loop μ-loop
+loop-again c = search scan-on
 
 returns-2 : tie.Need-returns-2 Inv-loop μ-loop
 returns-2 c = search scan-end
@@ -63,16 +44,10 @@ check-spec =
     Inv-loop
     μ-loop
     loop-holds
-    shared-slice-read-if1
-    past-ascii-requires
+    past-short-requires
+    stretch-end-requires
+    past-chars-requires
+    returns
     loop-less
     loop-again
-    sub-char-size
-    part-char-size-start
-    part-char-size-end
-    char-size-requires
-    returns
-    add-i
-    loop-less-2
-    loop-again-2
     returns-2)

@@ -18,6 +18,7 @@ use Rattle.token.specs.Layout.{reportWidth, reportNumbers, ReportFits}
 use Rattle.token.specs.declared.place.Place.{Place}
 use Rattle.lexeme.specs.Lexeme.{noteAtStart}
 use Rattle.lexeme.specs.Reports.{reportAt, reportOf, notesNumbers}
+use Rattle.lexeme.specs.declared.Lexeme.{Lexeme}
 use Rattle.lexeme.specs.declared.Mode.{Mode}
 use Rattle.lexeme.specs.declared.Mode.the-variants.{Strict, Tolerant}
 use Rattle.lexeme.proofs.Notes.{notes-length, report-fits}
@@ -26,14 +27,14 @@ use Rattle.scan.specs.Comment.{bodyEnd, blockNotes}
 use Rattle.scan.specs.Bytes.{bytesStop, bytesNotes, notesBy, stopReason}
 use Rattle.scan.specs.declared.bytes.Stop.{Stop}
 use Rattle.scan.specs.declared.bytes.Stop.the-variants as stop
-use Rattle.strings.specs.Literal.{literalOf, stringBytes, stringNotes}
-use Rattle.strings.proofs.Laws.{string-kind, string-bytes, illegal-bytes}
+use Rattle.strings.specs.Literal.{literalOf, lexString, stringBytes, stringNotes, Sized}
+use Rattle.strings.proofs.Laws.{string-kind, string-bytes, string-sized, illegal-bytes}
 use Rattle.triple_strings.specs.Dedent.{dedent}
 use Rattle.triple_strings.specs.Triple as literal
 use Rattle.triple_strings.specs.Triple.{quotes, closed, rawBytes, tripleBytes, tripleNotes}
 use Rattle.triple_strings.proofs.Triples.{triple-size, triple-bytes}
 use Rattle.lexer.specs.Lexer as lexer
-use Rattle.lexer.specs.Lexer.{classOf, classAt, stringBy, stringOf, notesOf}
+use Rattle.lexer.specs.Lexer.{classOf, classAt, lexBy, lexemeOf, stringBy, stringOf, notesOf}
 use Rattle.lexer.specs.Token.{ReportRoom}
 use Rattle.lexer.specs.declared.class.Class.{Class}
 use Rattle.lexer.specs.declared.class.Class.the-variants as C
@@ -103,6 +104,18 @@ module _ (m : Mode) (s : List ℕ) (h : 0 < length (stringOf m s)) where
   literal-value q =
       let e : stringOf m s ≡ stringBytes m s = by-class ∙ ap (λ (k : Class). stringBy k m s) (quote-class q) in
       e ∙ ⊎-elim (λ k. string-bytes m s k) (λ k. absurd (omega (arith, h, ap length (e ∙ illegal-bytes m s k)))) (string-kind m s)
+
+  -- its length and its size are those of the literal
+  pub literal-sized : quotes s ≡ false → (limit : ℕ) → Sized m s (lexemeOf m limit s .len) (length (stringOf m s))
+  unfolding lexemeOf lexBy stringBy
+  literal-sized q limit =
+      let e : lexemeOf m limit s ≡ lexString m s = rw (ne-eqb (length s) 0 (λ z. absurd (omega (arith, string-in))), quote-class q) in
+      let v : stringOf m s ≡ stringBytes m s = by-class ∙ ap (λ (k : Class). stringBy k m s) (quote-class q) in
+      ⊎-elim
+      (λ k.
+      let z = string-sized m s k in
+      record { count = ap length (sym (literal-value q)); stop = z .stop ∙ ap (λ (x : Lexeme). x .len) (sym e); closed = z .closed })
+      (λ k. absurd (omega (arith, h, ap length (v ∙ illegal-bytes m s k)))) (string-kind m s)
 
 -- ---- the reports
 

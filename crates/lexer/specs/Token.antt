@@ -15,7 +15,7 @@ use Rattle.token.specs.declared.kind.TokenKind.{TokenKind}
 use Rattle.lexeme.specs.declared.Lexeme.{Lexeme}
 use Rattle.lexeme.specs.declared.Mode.{Mode}
 use Rattle.lexeme.specs.Reports.{notesNumbers}
-use Rattle.lexer.specs.Lexer.{lexemeOf, notesOf}
+use Rattle.lexer.specs.Lexer.{lexemeOf, stringOf, notesOf}
 use Rattle.lexer.specs.declared.next.Found.{Found}
 use Rattle.lexer.specs.declared.next.Token.{Token}
 
@@ -80,6 +80,13 @@ isString k = eqb (kindNumber k) 5
 -- how many bytes a token of the kind and value length lays into the string buffer
 unfoldable pub stringSize : TokenKind → ℕ → ℕ
 stringSize k n = pick (isString k) n 0
+
+-- a String that has bytes stands at the front of the list; it takes len bytes of it, under some limit, and stands for size bytes
+pub record StringFront (m : Mode) (s : List ℕ) (len size : ℕ) : Type 0 where
+  pub some : 0 < length (stringOf m s)
+  pub counted : length (stringOf m s) ≡ size
+  pub limit : ℕ
+  pub ends : lexemeOf m limit s .len ≡ len
 
 -- a place of a text that is read, at which a token with reports starts, and room for these
 pub record ReportRoom (m : Mode) (limit : ℕ) (text : List ℕ) (start : Place) (room at : ℕ) : Type 0 where

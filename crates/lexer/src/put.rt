@@ -1,6 +1,6 @@
 // What a token lays into the string buffer and the report slice.
 ghost use mathlib.Core.Path.{_≡_};
-ghost use Prim.Native.Nat.{_+_, _≤_, _<_};
+ghost use Prim.Native.Nat.{_+_, _≤_};
 ghost use lib.ListN.{length, drop};
 ghost use lib.Seq.{sets};
 ghost use Rattle.token.specs.Layout.{reportWidth};
@@ -9,7 +9,7 @@ ghost use Rattle.lexeme.specs.Lexeme.{noteAtStart};
 ghost use Rattle.lexeme.specs.Reports.{notesNumbers};
 ghost use mathlib.Core.List.{[], _∷_};
 ghost use Rattle.lexer.specs.Lexer.{stringOf, notesOf};
-ghost use Rattle.lexer.specs.Token.{ReportRoom};
+ghost use Rattle.lexer.specs.Token.{StringFront, ReportRoom};
 use base::peek;
 use lexeme::Mode;
 use lexeme::put_report;
@@ -19,16 +19,16 @@ use token::place::Place;
 use triple_strings::lex::put_triple_string;
 use triple_strings::quotes::at_quotes;
 
-// Writes the decoded bytes of the String at the front of a text.
-pub fn put_string(s: &[u8], mode: Mode, out: &mut [u8], place: usize)
-    requires { ⌜ (0 < length (stringOf mode (now s))) × (place + length (stringOf mode (now s)) ≤ length (now out)) ⌝ }
+// Writes the decoded bytes of the String at the front of a text, which takes `len` bytes and stands for `size` bytes.
+pub fn put_string(s: &[u8], mode: Mode, len: usize, size: usize, out: &mut [u8], place: usize)
+    requires { ⌜ StringFront mode (now s) len size × (place + size ≤ length (now out)) ⌝ }
     ensures { λ r. ⌜ now (out .exit) ≡ sets (now (out .entry)) place (stringOf mode (now (s .entry))) ⌝ }
 {
     if at_quotes(s) {
         put_triple_string(s, out, place);
         return;
     }
-    strings::lex::put_string(s, mode, out, place);
+    strings::lex::put_string(s, mode, len, size, out, place);
 }
 
 // Writes a report at the place where a token starts.

@@ -1,6 +1,6 @@
 -- What is known of the token after an offset, with its places: the lexer's laws of the token found, Eof or not, at the offsets of its places.
 -- Assumes nothing.
-use mathlib.Core.Path.{_≡_, refl}
+use mathlib.Core.Path.{_≡_, refl, sym, subst}
 use mathlib.Core.Bool.{true}
 use mathlib.Core.Logic.{⊎-elim}
 use mathlib.Core.List.{List, []}
@@ -20,7 +20,7 @@ use Rattle.token.proofs.Places.{place-offset, offset-put}
 use Rattle.lexeme.specs.Lexeme.{bare}
 use Rattle.lexeme.specs.declared.Lexeme.{Lexeme}
 use Rattle.lexeme.specs.declared.Mode.{Mode}
-use Rattle.lexer.specs.Lexer.{stringOf, notesOf}
+use Rattle.lexer.specs.Lexer.{lexemeOf, stringOf, notesOf}
 use Rattle.lexer.specs.Token.{foundAt, endOf, tokenOf, nextToken, stringSize}
 use Rattle.lexer.specs.declared.next.Found.{Found}
 use Rattle.lexer.specs.declared.next.Token.{Token}
@@ -92,6 +92,7 @@ pub record Read (m : Mode) (limit : ℕ) (text : List ℕ) (at : ℕ) (t : Token
   pub reports-in : t .start .offset + t .reports ≤ t .end .offset
   pub reason-in : t .reason ≤ 18
   pub detail-in : AreBytes text → t .detail < 0x200000
+  pub ends : t .start .offset + lexemeOf m limit (drop (t .start .offset) text) .len ≡ t .end .offset
   pub string : length (stringOf m (drop (t .start .offset) text)) ≡ stringSize (t .kind) (t .size)
   pub notes : length (notesOf m limit (drop (t .start .offset) text)) ≡ t .reports
   pub notes-in : NotesIn (length (drop (t .start .offset) text)) (notesOf m limit (drop (t .start .offset) text))
@@ -105,6 +106,10 @@ module _ (m : Mode) (limit : ℕ) (text : List ℕ) (at : ℕ) (h : at ≤ lengt
 
     pub end-offset : placeAt text (endOf f) .offset ≡ endOf f
     end-offset = place-offset text (endOf f) (next-of m limit text at h f e .inside)
+
+    found-ends : f .start + lexemeOf m limit (drop (f .start) text) .len ≡ endOf f
+    unfolding foundAt
+    found-ends = subst (λ (g : Found). g .start + lexemeOf m limit (drop (g .start) text) .len ≡ endOf g) (sym e) refl
 
     pub found-read : Read m limit text at (tokenOf text f)
     found-read =
@@ -129,6 +134,7 @@ module _ (m : Mode) (limit : ℕ) (text : List ℕ) (at : ℕ) (h : at ≤ lengt
           reports-in = omega (arith, b .reports-in);
           reason-in = b .reason-in;
           detail-in = b .detail-in;
+          ends = found-ends;
           string = s .string;
           notes = s .notes;
           notes-in = s .notes-in;

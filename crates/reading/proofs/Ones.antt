@@ -101,6 +101,8 @@ module _ (m : Mode) (limit : ℕ) (text : List ℕ) (p : Place) (T : List ℤ) (
                       inside = omega (arith, r .ordered, r .inside);
                       counted = r .string;
                       fits = omega (arith, r .string);
+                      limit = limit;
+                      ends = r .ends;
                     }
 
                 rows-length : length (notesNumbers text (t .start .offset) (notesOf m limit (drop (t .start .offset) text))) ≡ t .reports * reportWidth

@@ -254,6 +254,8 @@ module _ {m : Mode} {limit : ℕ} {text : List ℕ} {T : List ℤ} {S : List ℕ
         inside = omega (arith, r .ordered, r .inside);
         counted = r .string;
         fits = omega (arith, strings-room, r .string);
+        limit = limit;
+        ends = r .ends;
       }
 
   reports-room : k + t .reports * reportWidth ≤ length R′

@@ -15,7 +15,7 @@ use Rattle.token.specs.Place.{Walkable}
 use Rattle.lexeme.specs.Reports.{notesNumbers}
 use Rattle.lexeme.specs.declared.Mode.{Mode}
 use Rattle.lexeme.specs.declared.Mode.the-variants.{Strict, Tolerant}
-use Rattle.lexer.specs.Lexer.{stringOf, notesOf}
+use Rattle.lexer.specs.Lexer.{lexemeOf, stringOf, notesOf}
 use Rattle.lexer.specs.Token.{stringSize}
 use Rattle.lexer.specs.declared.next.Token.{Token}
 use Rattle.reading.specs.Tokens.{tokens}
@@ -58,6 +58,8 @@ pub record StringRoom (m : Mode) (text : List ℕ) (t : Token) (room at : ℕ) :
   pub inside : t .start .offset ≤ length text
   pub counted : length (stringOf m (drop (t .start .offset) text)) ≡ stringSize (t .kind) (t .size)
   pub fits : at + length (stringOf m (drop (t .start .offset) text)) ≤ room
+  pub limit : ℕ
+  pub ends : t .start .offset + lexemeOf m limit (drop (t .start .offset) text) .len ≡ t .end .offset
 
 -- room for the reports of a token of the text, of which there are as many as it counts
 pub record NotesRoom (m : Mode) (limit : ℕ) (text : List ℕ) (t : Token) (room at : ℕ) : Type 0 where

@@ -66,11 +66,13 @@ pub fn put_value(text: &[u8], t: Token, mode: Mode, out: &mut [u8], at: usize)
     ensures { λ r. ⌜ now (out .exit) ≡ sets (now (out .entry)) at (stringOf mode (drop (t .start .offset) (now (text .entry)))) ⌝ }
 {
     let kind = t.kind;
-    if string_size(kind, t.size) == 0 {
+    let size = string_size(kind, t.size);
+    if size == 0 {
         return;
     }
     let start = t.start.offset;
-    put_string(&text[start..], mode, out, at);
+    let len = t.end.offset - start;
+    put_string(&text[start..], mode, len, size, out, at);
 }
 
 // Writes the reports of a token of the text.
@@ -102,9 +104,11 @@ pub fn put_token(
 {
     let kind = t.kind;
     put_record(t, at, tokens, i);
-    if string_size(kind, t.size) != 0 {
+    let size = string_size(kind, t.size);
+    if size != 0 {
         let start = t.start.offset;
-        put_string(&text[start..], mode, strings, at);
+        let len = t.end.offset - start;
+        put_string(&text[start..], mode, len, size, strings, at);
     }
     if t.reports != 0 {
         // A place of its own, so that the token need not lie in memory.

@@ -18,6 +18,11 @@ put-record-requires c κs = search needs
 string-size-requires : tie.Need-string-size-requires
 string-size-requires c κs = search needs
 
+sub-len : tie.Need-sub-len
+sub-len c =
+    let a = c .before .before .before .before .before .before .before .before in
+    omega (arith, a .pre .of-string .ends)
+
 sub-put-string : tie.Need-sub-put-string
 sub-put-string c = search needs
 
@@ -29,9 +34,17 @@ part-put-string-end c = search needs
 
 put-string-requires : tie.Need-put-string-requires
 put-string-requires c κs =
-    let z = c .before .before .before in
+    let z = c .before .before .before .before in
     let p = z .before .before .before .before .before .before .pre .of-string in
-    rw rest-is (omega (arith, p .counted, z .string-size .ensures, c .before .before .if1 .taken), p .fits)
+    rw rest-is (
+      record {
+        some = omega (arith, p .counted, z .string-size .ensures, c .before .before .before .if1 .taken);
+        counted = p .counted ∙ sym (z .string-size .ensures);
+        limit = p .limit;
+        ends = omega (arith, p .ends);
+      },
+      omega (arith, p .counted, z .string-size .ensures, p .fits),
+    )
 
 -- the string buffer, whether a string was written or there is none
 strings-are : (d : tie.Joined1)
@@ -40,7 +53,7 @@ strings-are : (d : tie.Joined1)
     (stringOf (d .before .before .before .before .before .before .before .args .mode) (drop (d .before .before .before .before .before .before .before .args .t .start .offset) (d .before .before .before .before .before .before .before .args .text .now)))
 strings-are d =
     let a = d .before .before .before .before .before .before .before in
-    ⊎-elim (λ w. w .6 ∙ (rw rest-is at (w .3 .ensures)))
+    ⊎-elim (λ w. w .7 ∙ (rw rest-is at (w .4 .ensures)))
     (λ w. w .1 ∙ ap (sets (a .args .strings .now) (a .args .at)) (sym (empty (stringOf (a .args .mode) (drop (a .args .t .start .offset) (a .args .text .now))) (a .pre .of-string .counted ∙ sym (d .before .string-size .ensures) ∙ w .0 .left))))
     (d .if1 .came)
 
@@ -90,6 +103,7 @@ put-token-spec =
     (tie.spec
     put-record-requires
     string-size-requires
+    sub-len
     sub-put-string
     part-put-string-start
     part-put-string-end

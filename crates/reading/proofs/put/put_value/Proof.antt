@@ -17,6 +17,11 @@ returns c =
     let a = c .before .before .before .before in
     rw (empty (stringOf (a .args .mode) (drop (a .args .t .start .offset) (a .args .text .now))) (a .pre .counted ∙ sym (c .before .string-size .ensures) ∙ c .if1 .taken))
 
+sub-len : tie.Need-sub-len
+sub-len c =
+    let a = c .before .before .before .before .before in
+    omega (arith, a .pre .ends)
+
 sub-put-string : tie.Need-sub-put-string
 sub-put-string c = search needs
 
@@ -28,9 +33,17 @@ part-put-string-end c = search needs
 
 put-string-requires : tie.Need-put-string-requires
 put-string-requires c κs =
-    let b = c .before .before .before in
-    let a = b .before .before .before in
-    rw rest-is (omega (arith, a .pre .counted, b .string-size .ensures, c .before .before .if1 .left), a .pre .fits)
+    let z = c .before .before .before .before in
+    let p = z .before .before .before .pre in
+    rw rest-is (
+      record {
+        some = omega (arith, p .counted, z .string-size .ensures, c .before .before .before .if1 .left);
+        counted = p .counted ∙ sym (z .string-size .ensures);
+        limit = p .limit;
+        ends = omega (arith, p .ends);
+      },
+      omega (arith, p .counted, z .string-size .ensures, p .fits),
+    )
 
 same-length : tie.Need-same-length
 same-length c = search needs
@@ -44,6 +57,7 @@ put-value-spec =
     (tie.spec
     string-size-requires
     returns
+    sub-len
     sub-put-string
     part-put-string-start
     part-put-string-end

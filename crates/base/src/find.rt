@@ -35,7 +35,7 @@ pub fn earlier(m: u8, passes: bool, none: u8, j: u8) -> u8
 }
 
 // Whether no byte is `c`. It looks at every byte, so that several can be tested by one instruction.
-pub fn lacks(s: &[u8], c: u8) -> bool
+fn lacks(s: &[u8], c: u8) -> bool
     ensures { λ r. ⌜ r ≡ allPass (isNot c) (now (s .entry)) ⌝ }
 {
     let mut none = true;

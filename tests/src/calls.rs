@@ -5,7 +5,8 @@ use std::fmt;
 
 use crate::ffi::{self, Buffers};
 use crate::notation::{escaped, joined};
-use crate::records::{self, numbers, Lent, Mode, Reading, Refusal, RECORD};
+use crate::records::{self, numbers, stepped};
+use crate::records::{Lent, Mode, Reading, Refusal, FIRST, RECORD};
 use crate::token::Position;
 
 #[derive(Debug, Clone, Copy)]
@@ -100,7 +101,7 @@ const WRAP: usize = 1 << 32;
 
 fn calls_everywhere(text: &[u8], setting: Setting) -> Vec<Call> {
     let mut calls = Vec::new();
-    let mut place = Position::with_offset(1, 1, 0);
+    let mut place = FIRST;
     for offset in 0..text.len() + 3 {
         let Position { line, column, .. } = place;
         for offset in [offset, offset + WRAP] {
@@ -114,10 +115,8 @@ fn calls_everywhere(text: &[u8], setting: Setting) -> Vec<Call> {
         for untrue in lines.into_iter().chain(columns) {
             calls.push(Call::Token(untrue, setting));
         }
-        place = match text.get(offset) {
-            Some(b'\n') => Position::with_offset(line + 1, 1, offset + 1),
-            _ => Position::with_offset(line, column + 1, offset + 1),
-        };
+        // Beyond the end it goes on as if over blanks.
+        place = stepped(place, text.get(offset).copied().unwrap_or(b' '));
     }
     for far in [1 << 31, i64::MAX as usize, 1 << 63, usize::MAX] {
         calls.push(Call::Place(far));

@@ -1,9 +1,9 @@
 //! The conformance list: texts with what document 01 expects of their whole
-//! reading, taken from the Rust, for whoever builds another reader.
+//! reading, or of one token from a place, taken from the Rust, for whoever
+//! builds another reader.
 //!
-//! Of the refusals only number 2 is in it. Number 1 takes a text of more than
-//! 67,108,864 bytes; 3 speaks of a place, which a whole reading is not given;
-//! 4, 5 and 6 follow from every case, with a buffer shorter than its result.
+//! Of the refusals of a text, 2 to 6 are in it. Number 1 is not: the smallest
+//! text that it refuses has 67,108,865 bytes, and `compare` tries that one.
 
 mod table;
 
@@ -14,23 +14,38 @@ use crate::duration::{LARGEST, UNITS};
 use crate::grammar::grown_text;
 use crate::notation::{escaped, joined};
 use crate::random::Random;
-use crate::records::{read_text, Lent, Mode};
+use crate::records::{place_of, read_text, read_token, stepped};
+use crate::records::{Lent, Mode, Reading, Refusal, FIRST};
+use crate::token::Position;
 
 /// How many cases there are.
-pub const COUNT: usize = 2_200;
+pub const COUNT: usize = 2_360;
 /// No text is longer, in bytes.
 pub const LONGEST_TEXT: usize = 400;
+/// No buffer is longer where its length is stated: the program that replays
+/// the list has buffers of these lengths.
+pub const LONGEST_ROOM: Lent = Lent {
+    tokens: 6_156,
+    strings: 512,
+    reports: 2_560,
+};
 
-/// A text and what it is read with; printed with what it gives.
+/// A text and what is asked of it; printed with what it gives.
+#[derive(Debug, PartialEq, Eq)]
 pub struct Case {
     pub name: String,
     pub text: Vec<u8>,
     pub mode: Mode,
     pub limit: u64,
+    /// One token is asked for, from this place; without it, all of them are.
+    pub from: Option<Position>,
+    /// The lengths of the buffers; without it, they are long enough.
+    pub room: Option<Lent>,
 }
 
 /// The same at each call: first those written by hand, then those that try
-/// a rule with one thing after the other, then grown texts.
+/// a rule with one thing after the other, then those that ask for one token or
+/// lend short buffers, then grown texts.
 pub fn cases() -> Vec<Case> {
     let mut list = List(Vec::new());
     list.miniature();
@@ -40,6 +55,11 @@ pub fn cases() -> Vec<Case> {
     list.escapes();
     list.indents();
     list.durations();
+    list.one_token();
+    list.refused_texts();
+    list.refused_places();
+    list.rooms();
+    list.order_of_checks();
     list.grown();
     list.0
 }
@@ -48,19 +68,29 @@ struct List(Vec<Case>);
 
 impl List {
     fn add(&mut self, name: String, text: &[u8], mode: Mode, limit: u64) {
-        let text = text.to_vec();
-        self.0.push(Case {
-            name: format!("{name}-{}", word(mode)),
-            text,
-            mode,
-            limit,
-        });
+        self.0.push(whole_reading(name, text, mode, limit));
     }
 
     fn add_both(&mut self, name: String, text: &[u8], limit: u64) {
         for mode in [Mode::Strict, Mode::Tolerant] {
             self.add(name.clone(), text, mode, limit);
         }
+    }
+
+    /// One token from a place, or buffers of stated lengths, or both.
+    fn add_call(
+        &mut self,
+        name: String,
+        text: &[u8],
+        mode: Mode,
+        from: Option<Position>,
+        room: Option<Lent>,
+    ) {
+        self.0.push(Case {
+            from,
+            room,
+            ..whole_reading(name, text, mode, DEFAULT_LIMIT)
+        });
     }
 
     fn miniature(&mut self) {
@@ -157,6 +187,77 @@ impl List {
         }
     }
 
+    /// One token from each offset; those inside a character are refused.
+    fn one_token(&mut self) {
+        for (variant, text) in table::ONE_TOKEN {
+            for place in places(text.as_bytes()) {
+                for mode in [Mode::Strict, Mode::Tolerant] {
+                    let name = format!("one-token-{variant}-at-{}", place.offset);
+                    self.add_call(name, text.as_bytes(), mode, Some(place), None);
+                }
+            }
+        }
+    }
+
+    /// The whole text is checked, though one token is asked for.
+    fn refused_texts(&mut self) {
+        for (variant, text, offset) in table::NO_TEXT {
+            let place = places(text)[*offset];
+            let name = format!("refused-2-{variant}");
+            self.add_call(name, text, Mode::Strict, Some(place), None);
+        }
+    }
+
+    fn refused_places(&mut self) {
+        for (variant, text, [offset, line, column]) in table::UNTRUE {
+            let place = Position::with_offset(*line, *column, *offset);
+            let name = format!("refused-3-{variant}");
+            self.add_call(name, text.as_bytes(), Mode::Strict, Some(place), None);
+        }
+    }
+
+    /// Buffers that are exact, longer, and each alone one short and empty.
+    fn rooms(&mut self) {
+        for (variant, text, mode, offset) in table::ROOMS {
+            let text = text.as_bytes();
+            let from = offset.map(|offset| place_of(text, offset).expect("a true offset"));
+            let exact = exact(text, *mode, from);
+            for (group, room) in accepted_rooms(exact).into_iter().chain(short_rooms(exact)) {
+                let name = format!("{group}-{variant}");
+                self.add_call(name, text, *mode, from, Some(room));
+            }
+        }
+    }
+
+    /// Calls with several faults; each is refused for the first of them.
+    fn order_of_checks(&mut self) {
+        let text: &[u8] = b"\"a\\q\"";
+        let no_text: &[u8] = b"\"a\\q\xFF";
+        let untrue = Position::with_offset(1, 2, 0);
+        for (variant, text, from) in [
+            ("2-before-3-one-token", no_text, Some(untrue)),
+            ("2-before-4-whole", no_text, None),
+            ("3-before-4-one-token", text, Some(untrue)),
+        ] {
+            let name = format!("order-{variant}");
+            self.add_call(name, text, Mode::Tolerant, from, Some(Lent::NONE));
+        }
+        for (asked, from) in [("one-token", Some(FIRST)), ("whole", None)] {
+            let exact = exact(text, Mode::Tolerant, from);
+            let (mut no_reports, mut tokens_only) = (exact, Lent::NONE);
+            no_reports.reports = 0;
+            tokens_only.tokens = exact.tokens;
+            for (variant, room) in [
+                ("4-before-5", Lent::NONE),
+                ("5-before-6", tokens_only),
+                ("6-last", no_reports),
+            ] {
+                let name = format!("order-{variant}-{asked}");
+                self.add_call(name, text, Mode::Tolerant, from, Some(room));
+            }
+        }
+    }
+
     /// As many as are still missing.
     fn grown(&mut self) {
         let mut random = Random::new(1);
@@ -173,10 +274,91 @@ impl List {
     }
 }
 
+/// The whole reading of a text into buffers that are long enough.
+fn whole_reading(name: String, text: &[u8], mode: Mode, limit: u64) -> Case {
+    Case {
+        name: format!("{name}-{}", word(mode)),
+        text: text.to_vec(),
+        mode,
+        limit,
+        from: None,
+        room: None,
+    }
+}
+
+/// The places of all offsets, those inside characters too.
+fn places(text: &[u8]) -> Vec<Position> {
+    let mut places = vec![FIRST];
+    for (offset, &byte) in text.iter().enumerate() {
+        places.push(stepped(places[offset], byte));
+    }
+    places
+}
+
+/// The lengths of buffers that hold what is asked for and no more.
+fn exact(text: &[u8], mode: Mode, from: Option<Position>) -> Lent {
+    let case = Case {
+        from,
+        ..whole_reading(String::new(), text, mode, DEFAULT_LIMIT)
+    };
+    let (reading, _) = case.answer().expect("a text, a true place, ample buffers");
+    reading.exact()
+}
+
+fn accepted_rooms(exact: Lent) -> [(&'static str, Lent); 2] {
+    let longer = Lent {
+        tokens: exact.tokens + 1,
+        strings: exact.strings + 1,
+        reports: exact.reports + 1,
+    };
+    [("room-exact", exact), ("room-longer", longer)]
+}
+
+/// Named for their refusals. A buffer that nothing goes into is never short;
+/// at least one token goes into the first.
+fn short_rooms(exact: Lent) -> Vec<(&'static str, Lent)> {
+    let tokens = |tokens| Lent { tokens, ..exact };
+    let strings = |strings| Lent { strings, ..exact };
+    let reports = |reports| Lent { reports, ..exact };
+    let mut rooms = vec![
+        ("refused-4-one-short", tokens(exact.tokens - 1)),
+        ("refused-4-empty", tokens(0)),
+    ];
+    if exact.strings > 0 {
+        rooms.push(("refused-5-one-short", strings(exact.strings - 1)));
+        rooms.push(("refused-5-empty", strings(0)));
+    }
+    if exact.reports > 0 {
+        rooms.push(("refused-6-one-short", reports(exact.reports - 1)));
+        rooms.push(("refused-6-empty", reports(0)));
+    }
+    rooms
+}
+
 fn word(mode: Mode) -> &'static str {
     match mode {
         Mode::Strict => "strict",
         Mode::Tolerant => "tolerant",
+    }
+}
+
+/// Offset, line and column; unlike a record's they may be any numbers.
+fn place_words(place: Position) -> String {
+    joined(&[place.offset, place.line, place.column])
+}
+
+impl Case {
+    /// The reading, and where one token is asked for, the place at its end.
+    fn answer(&self) -> Result<(Reading, Option<Position>), Refusal> {
+        let (text, mode, limit) = (&self.text, self.mode, self.limit);
+        let lent = self.room.unwrap_or(Lent::AMPLE);
+        match self.from {
+            Some(place) => {
+                let (reading, end) = read_token(text, place, mode, limit, lent)?;
+                Ok((reading, Some(end)))
+            }
+            None => Ok((read_text(text, mode, limit, lent)?, None)),
+        }
     }
 }
 
@@ -186,15 +368,25 @@ impl fmt::Display for Case {
         writeln!(f, "case {}", self.name)?;
         writeln!(f, "mode {}", word(self.mode))?;
         writeln!(f, "limit {}", self.limit)?;
+        if let Some(place) = self.from {
+            writeln!(f, "from {}", place_words(place))?;
+        }
+        if let Some(room) = self.room {
+            let lengths = [room.tokens, room.strings, room.reports];
+            writeln!(f, "room {}", joined(&lengths))?;
+        }
         writeln!(f, "text {}", escaped(&self.text))?;
-        match read_text(&self.text, self.mode, self.limit, Lent::AMPLE) {
-            Ok(reading) => {
+        match self.answer() {
+            Ok((reading, end)) => {
                 for record in &reading.records {
                     writeln!(f, "token {}", joined(record))?;
                 }
                 writeln!(f, "strings {}", escaped(&reading.strings))?;
                 for report in &reading.reports {
                     writeln!(f, "report {}", joined(report))?;
+                }
+                if let Some(place) = end {
+                    writeln!(f, "place {}", place_words(place))?;
                 }
             }
             Err(refusal) => writeln!(f, "refused {} {}", refusal.number, refusal.offset)?,

@@ -277,6 +277,26 @@ fn meaning(message: &str, token: &[u8]) -> [i64; 2] {
     [reason, i64::from(detail)]
 }
 
+/// "The first place is line 1, column 1, offset 0."
+pub const FIRST: Position = Position {
+    line: 1,
+    column: 1,
+    offset: 0,
+};
+
+/// "A place stepped over one byte gives the next place"
+pub fn stepped(place: Position, byte: u8) -> Position {
+    let Position {
+        line,
+        column,
+        offset,
+    } = place;
+    match byte {
+        b'\n' => Position::with_offset(line + 1, 1, offset + 1),
+        _ => Position::with_offset(line, column + 1, offset + 1),
+    }
+}
+
 /// Offset, line, column.
 pub fn numbers(place: Position) -> [i64; 3] {
     [place.offset, place.line, place.column].map(|number| number as i64)

@@ -2,10 +2,16 @@
 //! holds it to what it promises.
 
 use std::collections::BTreeSet;
-use std::str::Lines;
+use std::fmt::Debug;
+use std::iter::Peekable;
+use std::str::{FromStr, Lines};
 
-use oracle::conformance::{cases, Case, COUNT, LONGEST_TEXT};
-use oracle::records::{read_text, Lent, Mode, Reading, Refusal};
+use oracle::conformance::{cases, Case, COUNT, LONGEST_ROOM, LONGEST_TEXT};
+use oracle::records::{read_text, read_token, Lent, Mode, Reading, Refusal};
+use oracle::token::Position;
+
+/// A reading, and after one token the place at its end; or the refusal.
+type Answer = Result<(Reading, Option<Position>), Refusal>;
 
 #[test]
 fn the_list_says_what_the_rust_gives() {
@@ -14,19 +20,31 @@ fn the_list_says_what_the_rust_gives() {
     assert_eq!(cases.len(), COUNT);
     let (mut names, mut kinds) = (BTreeSet::new(), BTreeSet::new());
     let (mut reasons, mut refusals) = (BTreeSet::new(), BTreeSet::new());
-    let mut lines = list.lines();
+    let (mut accepted_from, mut accepted_room) = (false, false);
+    let mut lines = list.lines().peekable();
     for case in &cases {
-        let (name, text, mode, limit) = head(&mut lines);
+        let asked = head(&mut lines);
+        assert_eq!(&asked, case);
+        let (name, room) = (&asked.name, asked.room.unwrap_or(Lent::NONE));
         assert!(names.insert(name.clone()), "{name} is there twice");
-        assert_eq!((&text, mode, limit), (&case.text, case.mode, case.limit));
-        assert!(text.len() <= LONGEST_TEXT, "{name}");
+        assert!(asked.text.len() <= LONGEST_TEXT, "{name}");
+        assert!(room.tokens <= LONGEST_ROOM.tokens, "{name}");
+        assert!(room.strings <= LONGEST_ROOM.strings, "{name}");
+        assert!(room.reports <= LONGEST_ROOM.reports, "{name}");
         let stated = body(&mut lines);
-        assert_eq!(stated, read_text(&text, mode, limit, Lent::AMPLE), "{name}");
+        assert_eq!(stated, given(&asked), "{name}");
+        let refused = stated.as_ref().err().map(|refusal| refusal.number);
+        assert!(
+            promised(name).is_none_or(|number| refused == Some(number)),
+            "{name}"
+        );
         match stated {
-            Ok(reading) => {
+            Ok((reading, _)) => {
                 kinds.extend(reading.records.iter().map(|record| record[0]));
                 reasons.extend(reading.records.iter().map(|record| record[1]));
                 reasons.extend(reading.reports.iter().map(|report| report[0]));
+                accepted_from |= asked.from.is_some();
+                accepted_room |= asked.room.is_some();
             }
             Err(refusal) => drop(refusals.insert(refusal.number)),
         }
@@ -34,50 +52,98 @@ fn the_list_says_what_the_rust_gives() {
     assert_eq!(lines.next(), None);
     assert!(kinds.into_iter().eq(0..=25));
     assert!(reasons.into_iter().eq(0..=20));
-    assert!(refusals.into_iter().eq([2]));
+    assert!(refusals.into_iter().eq(2..=6));
+    assert!(accepted_from && accepted_room);
 }
 
-/// Name, text, mode and limit of the next case.
-fn head(lines: &mut Lines) -> (String, Vec<u8>, Mode, u64) {
-    let mut value = |word: &str| {
-        let line = lines.next().and_then(|line| line.strip_prefix(word));
-        line.expect(word).to_string()
+/// What the next case asks.
+fn head(lines: &mut Peekable<Lines>) -> Case {
+    let name = value(lines, "case ").expect("a name").to_string();
+    let mode = match value(lines, "mode ") {
+        Some("strict") => Mode::Strict,
+        Some("tolerant") => Mode::Tolerant,
+        other => panic!("{name}: mode {other:?}"),
     };
-    let name = value("case ");
-    let mode = match value("mode ").as_str() {
-        "strict" => Mode::Strict,
-        "tolerant" => Mode::Tolerant,
-        other => panic!("mode {other}"),
-    };
-    let limit = value("limit ").parse().unwrap();
-    (name, unescaped(&value("text ")), mode, limit)
+    let limit = value(lines, "limit ").expect("a limit").parse().unwrap();
+    let from = value(lines, "from ").map(place);
+    let room = value(lines, "room ").map(|words| {
+        let [tokens, strings, reports] = numbers(words);
+        Lent {
+            tokens,
+            strings,
+            reports,
+        }
+    });
+    let text = unescaped(value(lines, "text ").expect("a text"));
+    Case {
+        name,
+        text,
+        mode,
+        limit,
+        from,
+        room,
+    }
+}
+
+/// What stands after the word, if the next line starts with it.
+fn value<'a>(lines: &mut Peekable<Lines<'a>>, word: &str) -> Option<&'a str> {
+    let line = lines.next_if(|line| line.starts_with(word))?;
+    line.strip_prefix(word)
 }
 
 /// What is expected of a case, to its end.
-fn body(lines: &mut Lines) -> Result<Reading, Refusal> {
+fn body(lines: &mut Peekable<Lines>) -> Answer {
     let mut reading = Reading::default();
-    let mut refused = None;
+    let (mut end, mut refused) = (None, None);
     for line in lines {
         let (word, rest) = line.split_once(' ').unwrap_or((line, ""));
         match word {
             "token" => reading.records.push(numbers(rest)),
             "strings" => reading.strings = unescaped(rest),
             "report" => reading.reports.push(numbers(rest)),
+            "place" => end = Some(place(rest)),
             "refused" => refused = Some(numbers(rest)),
             "end" => break,
             other => panic!("a line with {other}"),
         }
     }
-    refused.map_or(Ok(reading), |[number, offset]| {
+    refused.map_or(Ok((reading, end)), |[number, offset]| {
         Err(Refusal {
             number: number as u8,
-            offset: offset as usize,
+            offset,
         })
     })
 }
 
-fn numbers<const N: usize>(words: &str) -> [i64; N] {
-    let numbers: Vec<i64> = words.split(' ').map(|word| word.parse().unwrap()).collect();
+/// What the Rust gives.
+fn given(asked: &Case) -> Answer {
+    let (text, mode, limit) = (&asked.text, asked.mode, asked.limit);
+    let lent = asked.room.unwrap_or(Lent::AMPLE);
+    match asked.from {
+        Some(place) => {
+            read_token(text, place, mode, limit, lent).map(|(reading, end)| (reading, Some(end)))
+        }
+        None => read_text(text, mode, limit, lent).map(|reading| (reading, None)),
+    }
+}
+
+/// The refusal that a name such as `refused-3-line-zero` speaks of.
+fn promised(name: &str) -> Option<u8> {
+    let (group, rest) = name.split_once('-')?;
+    let (number, _) = rest.split_once('-')?;
+    match group {
+        "refused" | "order" => number.parse().ok(),
+        _ => None,
+    }
+}
+
+fn place(words: &str) -> Position {
+    let [offset, line, column] = numbers(words);
+    Position::with_offset(line, column, offset)
+}
+
+fn numbers<T: FromStr<Err: Debug> + Debug, const N: usize>(words: &str) -> [T; N] {
+    let numbers: Vec<T> = words.split(' ').map(|word| word.parse().unwrap()).collect();
     numbers.try_into().unwrap()
 }
 

@@ -1,5 +1,5 @@
-// Prints the conformance list, which it reads from standard input, anew: it keeps the lines that ask, `case`, `mode`, `limit` and `text`,
-// and `end`; it passes over those that answer, and after each text prints what `read_text` answers, in their form.
+// Prints the conformance list, which it reads from standard input, anew: it keeps the lines that ask, `case`, `mode`, `limit`, `from`, `room`
+// and `text`, and `end`; it passes over those that answer, and after each text prints what `read_text` or `read_token` answers, in their form.
 mod escaped;
 
 ghost use mathlib.Core.Path.{_≡_};
@@ -8,20 +8,51 @@ ghost use Prim.Native.Nat.{_*_, _≤_};
 ghost use lib.Dec.{eqb};
 ghost use lib.ListN.{length};
 ghost use Rattle.base.specs.Bytes.{byte};
+ghost use Rattle.cases.specs.Room.{Roomy};
 use lexeme::Mode;
 use libc::STDIN_FILENO;
 use libc::STDOUT_FILENO;
 use notation::numbers::print_number;
 use notation::parse;
+use reading::one::ReadToken;
+use reading::one::read_token;
 use reading::text::ReadText;
 use reading::text::read_text;
 use token::layout::RECORD_WIDTH;
 use token::layout::REPORT_WIDTH;
+use token::place::Place;
 
-// How a text is read.
+// The lengths of buffers that hold the tokens, strings and reports of any text of at most 512 bytes.
+const TOKENS: usize = 6156;
+
+const STRINGS: usize = 512;
+
+const REPORTS: usize = 2560;
+
+// How a text is read: whole, or one token from a place; and how long the buffers are.
 struct How {
     mode: Mode,
     limit: usize,
+    whole: bool,
+    place: Place,
+    tokens: usize,
+    strings: usize,
+    reports: usize,
+}
+
+// How a case is read that asks for nothing else.
+fn plainly() -> How
+    ensures { λ r. ⌜ Roomy r ⌝ }
+{
+    How {
+        mode: Mode::Strict,
+        limit: 0,
+        whole: true,
+        place: Place::first(),
+        tokens: TOKENS,
+        strings: STRINGS,
+        reports: REPORTS,
+    }
 }
 
 // What stands after a number, where these many of its row are left, with itself.
@@ -77,36 +108,92 @@ fn print_counts(tokens: &[i64], strings: &[u8], reports: &[i64], n: usize, m: us
     print_rows(b"report ", &reports[..r], REPORT_WIDTH);
 }
 
-// Reads a text of at most 512 bytes: the buffers hold the tokens, strings and reports of any such text.
-fn answer_text(text: &[u8], how: How) {
-    let mut tokens = [0i64; 6156];
-    let mut strings = [0u8; 512];
-    let mut reports = [0i64; 2560];
+fn print_place(place: Place) {
+    io::write_all(STDOUT_FILENO, b"place ");
+    io::print_decimal(STDOUT_FILENO, place.offset as u64);
+    io::write_all(STDOUT_FILENO, b" ");
+    io::print_decimal(STDOUT_FILENO, place.line as u64);
+    io::write_all(STDOUT_FILENO, b" ");
+    io::print_decimal(STDOUT_FILENO, place.column as u64);
+    io::write_all(STDOUT_FILENO, b"\n");
+}
+
+// Reads a whole text and prints what it gives.
+fn answer_text(text: &[u8], how: How, tokens: &mut [i64], strings: &mut [u8], reports: &mut [i64]) {
     let mode = how.mode;
-    let answer = read_text(
-        text,
-        mode,
-        how.limit,
-        &mut tokens,
-        &mut strings,
-        &mut reports,
-    );
+    let answer = read_text(text, mode, how.limit, tokens, strings, reports);
     match answer {
         ReadText::Counts {
             tokens: n,
             strings: m,
             reports: k,
-        } => print_counts(&tokens, &strings, &reports, n, m, k),
+        } => print_counts(tokens, strings, reports, n, m, k),
         ReadText::NotUtf8(at) => print_refusal(answer.number(), at),
         _ => print_refusal(answer.number(), 0),
     }
 }
 
-fn answer_line(line: &[u8], how: How) {
+// Reads one token and prints what it gives.
+fn answer_token(
+    text: &[u8],
+    how: How,
+    tokens: &mut [i64],
+    strings: &mut [u8],
+    reports: &mut [i64],
+) {
+    let mode = how.mode;
+    let place = how.place;
+    let answer = read_token(text, place, mode, how.limit, tokens, strings, reports);
+    match answer {
+        ReadToken::One {
+            strings: m,
+            reports: k,
+            end,
+        } => {
+            print_counts(tokens, strings, reports, 1, m, k);
+            print_place(end);
+        }
+        ReadToken::NotUtf8(at) => print_refusal(answer.number(), at),
+        _ => print_refusal(answer.number(), 0),
+    }
+}
+
+// Lends buffers of the lengths asked for.
+fn answer(text: &[u8], how: How)
+    requires { ⌜ Roomy how ⌝ }
+{
+    let mut tokens = [0i64; TOKENS];
+    let mut strings = [0u8; STRINGS];
+    let mut reports = [0i64; REPORTS];
+    let t = how.tokens;
+    let s = how.strings;
+    let r = how.reports;
+    if how.whole {
+        answer_text(
+            text,
+            how,
+            &mut tokens[..t],
+            &mut strings[..s],
+            &mut reports[..r],
+        );
+        return;
+    }
+    answer_token(
+        text,
+        how,
+        &mut tokens[..t],
+        &mut strings[..s],
+        &mut reports[..r],
+    );
+}
+
+fn answer_line(line: &[u8], how: How)
+    requires { ⌜ Roomy how ⌝ }
+{
     let a = parse::next_word(line, 0);
     let mut text = [0u8; 512];
     let n = escaped::read_bytes(&line[a..], &mut text);
-    answer_text(&text[..n], how);
+    answer(&text[..n], how);
 }
 
 // Whether a line's word starts with these two letters; no two words of the list do alike but `refused` and `report`.
@@ -117,22 +204,121 @@ fn starts(line: &[u8], a: u8, b: u8) -> bool
 }
 
 fn is_answer(line: &[u8]) -> bool {
-    starts(line, b't', b'o') | starts(line, b's', b't') | starts(line, b'r', b'e')
+    starts(line, b't', b'o')
+        | starts(line, b's', b't')
+        | starts(line, b'r', b'e')
+        | starts(line, b'p', b'l')
 }
 
-// How the texts after a line are read.
-fn after_line(line: &[u8], how: How) -> How {
-    if starts(line, b'l', b'i') {
-        let mode = how.mode;
-        let limit = parse::digits(line) as usize;
-        return How { mode, limit };
+// The place or the lengths of buffers that a line asks for are its three numbers.
+struct Three {
+    a: u64,
+    b: u64,
+    c: u64,
+}
+
+fn three_of(line: &[u8]) -> Three {
+    let a = parse::next_word(line, 0);
+    let b = parse::next_word(line, a);
+    let c = parse::next_word(line, b);
+    Three {
+        a: parse::digits(&line[a..b]),
+        b: parse::digits(&line[b..c]),
+        c: parse::digits(&line[c..]),
+    }
+}
+
+fn from_place(line: &[u8], how: How) -> How
+    requires { ⌜ Roomy how ⌝ }
+    ensures { λ r. ⌜ Roomy r ⌝ }
+{
+    let n = three_of(line);
+    let mode = how.mode;
+    How {
+        mode,
+        limit: how.limit,
+        whole: false,
+        place: Place {
+            offset: n.a as usize,
+            line: n.b as usize,
+            column: n.c as usize,
+        },
+        tokens: how.tokens,
+        strings: how.strings,
+        reports: how.reports,
+    }
+}
+
+fn with_room(line: &[u8], how: How) -> How
+    ensures { λ r. ⌜ Roomy r ⌝ }
+{
+    let n = three_of(line);
+    let mode = how.mode;
+    let place = how.place;
+    How {
+        mode,
+        limit: how.limit,
+        whole: how.whole,
+        place,
+        tokens: parse::at_most(n.a, TOKENS),
+        strings: parse::at_most(n.b, STRINGS),
+        reports: parse::at_most(n.c, REPORTS),
+    }
+}
+
+fn with_limit(line: &[u8], how: How) -> How
+    requires { ⌜ Roomy how ⌝ }
+    ensures { λ r. ⌜ Roomy r ⌝ }
+{
+    let mode = how.mode;
+    let place = how.place;
+    How {
+        mode,
+        limit: parse::digits(line) as usize,
+        whole: how.whole,
+        place,
+        tokens: how.tokens,
+        strings: how.strings,
+        reports: how.reports,
+    }
+}
+
+fn with_mode(line: &[u8], how: How) -> How
+    requires { ⌜ Roomy how ⌝ }
+    ensures { λ r. ⌜ Roomy r ⌝ }
+{
+    let place = how.place;
+    let mode = mode_of(line);
+    How {
+        mode,
+        limit: how.limit,
+        whole: how.whole,
+        place,
+        tokens: how.tokens,
+        strings: how.strings,
+        reports: how.reports,
+    }
+}
+
+// How the text after a line is read.
+fn after_line(line: &[u8], how: How) -> How
+    requires { ⌜ Roomy how ⌝ }
+    ensures { λ r. ⌜ Roomy r ⌝ }
+{
+    if starts(line, b'c', b'a') {
+        return plainly();
     }
     if starts(line, b'm', b'o') {
-        let mode = mode_of(line);
-        return How {
-            mode,
-            limit: how.limit,
-        };
+        return with_mode(line, how);
+    }
+    if starts(line, b'l', b'i') {
+        return with_limit(line, how);
+    }
+    if starts(line, b'f', b'r') {
+        return from_place(line, how);
+    }
+    if starts(line, b'r', b'o') {
+        return with_room(line, how);
     }
     how
 }
@@ -144,7 +330,9 @@ fn mode_of(line: &[u8]) -> Mode {
     Mode::Strict
 }
 
-fn one_line(line: &[u8], how: How) {
+fn one_line(line: &[u8], how: How)
+    requires { ⌜ Roomy how ⌝ }
+{
     if is_answer(line) {
         return;
     }
@@ -155,10 +343,7 @@ fn one_line(line: &[u8], how: How) {
 }
 
 fn replay(s: &[u8]) {
-    let mut how = How {
-        mode: Mode::Strict,
-        limit: 0,
-    };
+    let mut how = plainly();
     let mut i = 0;
     while i < s.len() {
         let e = parse::next_line(s, i);

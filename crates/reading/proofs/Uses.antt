@@ -1,5 +1,5 @@
--- What a caller learns from an answer: no number that it gives is past 67,108,865, and the records of an accepted reading lie in the token slice.
--- By cases on the tests. Assumes nothing.
+-- What a caller learns from an answer: no number that it gives is past 67,108,865, and what an accepted call counts lies in its
+-- buffers. By cases on the tests. Assumes nothing.
 use mathlib.Core.Path.{_≡_, refl, sym, ap, _∙_}
 use mathlib.Core.Bool.{Bool, true, false, not, _&&_}
 use mathlib.Core.List.{List, [], _∷_, _++_}
@@ -12,7 +12,7 @@ use borrow.Author.Tests.{ltb-false, leb-true}
 use Rattle.base.specs.Choice.{pick}
 use Rattle.base.proofs.Tests.{and-left}
 use Rattle.limits.specs.Limits.{maxMessageSize}
-use Rattle.token.specs.Layout.{recordWidth, reportWidth}
+use Rattle.token.specs.Layout.{recordWidth, reportWidth, recordNumbers}
 use Rattle.token.specs.Place.{placeAt}
 use Rattle.token.specs.declared.place.Place.{Place}
 use Rattle.token.proofs.Places.{place-moved}
@@ -20,16 +20,20 @@ use Rattle.utf8.specs.Check.{checkOf, insideChar}
 use Rattle.utf8.specs.declared.check.Verdict.{Verdict}
 use Rattle.utf8.specs.declared.check.Verdict.the-variants.{WellFormed, IllFormed}
 use Rattle.utf8.proofs.Valid.{checked}
+use Rattle.lexeme.specs.Lexeme.{Note}
+use Rattle.lexeme.specs.Reports.{notesNumbers}
 use Rattle.lexeme.specs.declared.Mode.{Mode}
+use Rattle.lexeme.proofs.Notes.{notes-length}
 use Rattle.lexer.specs.Lexer.{stringOf, notesOf}
 use Rattle.lexer.specs.Token.{nextToken}
 use Rattle.lexer.specs.declared.next.Token.{Token}
 use Rattle.reading.specs.Tokens.{tokens}
-use Rattle.reading.specs.Buffers.{recordsOf, stringsOf, reportsOf, recordRows}
+use Rattle.reading.specs.Buffers.{recordOf, recordsOf, stringsOf, reportsOf, recordRows, reportRows}
 use Rattle.reading.specs.Answers.{afterCheck, isPlace, readTextAnswer, readTextValues, readTokenAnswer, readTokenValues, placeOfAnswer, placeOfValues}
 use Rattle.reading.specs.Claim as claim
 use Rattle.reading.specs.Claim.{Each}
-use Rattle.reading.specs.Calls.{ReadsText}
+use Rattle.reading.specs.Calls.{ReadsText, ReadsToken}
+use Rattle.reading.specs.declared.one.ReadToken.{ReadToken}
 use Rattle.reading.specs.declared.one.ReadToken.the-variants as one
 use Rattle.reading.specs.declared.place.PlaceOf.the-variants as place
 use Rattle.reading.specs.declared.text.ReadText.{ReadText}
@@ -37,7 +41,7 @@ use Rattle.reading.specs.declared.text.ReadText.the-variants as text-is
 use Rattle.reading.proofs.Nexts.{reads}
 use Rattle.reading.proofs.Fits.{string-size-le, strings-fit, reports-fit, tokens-fit}
 use Rattle.reading.proofs.Places.{place-is}
-use Rattle.reading.proofs.Rows.{records-length, record-rows-length}
+use Rattle.reading.proofs.Rows.{records-length, record-rows-length, report-rows-length}
 
 -- at most 67,108,865
 abbrev pub AtMost : ℕ → Type 0
@@ -123,27 +127,86 @@ place-small text i = go (ltb maxMessageSize (length text)) (checkOf text) (leb i
         let w = place-moved text i l in
         three (placeAt text i .offset) (placeAt text i .line) (placeAt text i .column) (omega (arith, w .offset)) (omega (arith, w .line)) (omega (arith, w .column)) claim.none
 
--- the counts of an accepted reading
-counted : (m : Mode) (limit : ℕ) (text : List ℕ) (nt ns nr : ℕ) {n s k : ℕ} → text-is.Counts n s k ≡ readTextAnswer m limit text nt ns nr → n ≡ length (tokens m limit text)
-unfolding readTextAnswer
-counted m limit text nt ns nr {n} {s} {k} q =
-    go (ltb maxMessageSize (length text)) (checkOf text) (ltb nt (length (tokens m limit text) * recordWidth)) (ltb ns (length (stringsOf m text (tokens m limit text)))) (ltb nr (length (reportsOf m limit text (tokens m limit text)) * reportWidth)) q
-  where
-    go : (b : Bool) (v : Verdict) (c d e : Bool)
-        → text-is.Counts n s k ≡ pick b text-is.TooLong (afterCheck v text-is.NotUtf8 (pick c text-is.TokensShort (pick d text-is.StringsShort (pick e text-is.ReportsShort (text-is.Counts (length (tokens m limit text)) (length (stringsOf m text (tokens m limit text))) (length (reportsOf m limit text (tokens m limit text)))))))) → n ≡ length (tokens m limit text)
-    go true v c d e f = cc
-    go false (IllFormed n) c d e f = cc
-    go false WellFormed true d e f = cc
-    go false WellFormed false true e f = cc
-    go false WellFormed false false true f = cc
-    go false WellFormed false false false f = cc
+-- what an accepted reading counts lies in its buffers
+module _ {m : Mode} {limit : ℕ} {text : List ℕ} {T : List ℤ} {S : List ℕ} {R : List ℤ} {r : ReadText} {T′ : List ℤ} {S′ : List ℕ} {R′ : List ℤ} {n s k : ℕ} (w : ReadsText m limit text T S R r T′ S′ R′) (e : r ≡ text-is.Counts n s k) where
+  abbrev Counted : Type 0
+  Counted = (n ≡ length (tokens m limit text)) × (s ≡ length (stringsOf m text (tokens m limit text))) × (k ≡ length (reportsOf m limit text (tokens m limit text)))
 
--- the records of an accepted reading are all within the token slice
-pub records-inside : {m : Mode} {limit : ℕ} {text : List ℕ} {T : List ℤ} {S : List ℕ} {R : List ℤ} {r : ReadText} {T′ : List ℤ} {S′ : List ℕ} {R′ : List ℤ} {n s k : ℕ}
-    → ReadsText m limit text T S R r T′ S′ R′ → r ≡ text-is.Counts n s k → n * recordWidth ≤ length T′
-records-inside {m} {limit} {text} {T} {S} {R} {r} {T′} {S′} {R′} {n} {s} {k} w e =
-    let rows = recordRows (recordsOf 0 (tokens m limit text)) in
-    let q : text-is.Counts n s k ≡ readTextAnswer m limit text (length T) (length S) (length R) = sym e ∙ w .answer in
-    let d : T′ ≡ rows ++ drop (length rows) T = rw e at (w .records) in
-    let c : n ≡ length (tokens m limit text) = counted m limit text (length T) (length S) (length R) q in
-    omega (arith, ap length d, length-append rows (drop (length rows) T), record-rows-length (recordsOf 0 (tokens m limit text)), records-length 0 (tokens m limit text))
+  counted : Counted
+  unfolding readTextAnswer
+  counted =
+      go (ltb maxMessageSize (length text)) (checkOf text) (ltb (length T) (length (tokens m limit text) * recordWidth)) (ltb (length S) (length (stringsOf m text (tokens m limit text)))) (ltb (length R) (length (reportsOf m limit text (tokens m limit text)) * reportWidth)) (sym e ∙ w .answer)
+    where
+      go : (b : Bool) (v : Verdict) (c d f : Bool)
+          → text-is.Counts n s k ≡ pick b text-is.TooLong (afterCheck v text-is.NotUtf8 (pick c text-is.TokensShort (pick d text-is.StringsShort (pick f text-is.ReportsShort (text-is.Counts (length (tokens m limit text)) (length (stringsOf m text (tokens m limit text))) (length (reportsOf m limit text (tokens m limit text)))))))) → Counted
+      go true v c d f q = (cc, cc, cc)
+      go false (IllFormed _) c d f q = (cc, cc, cc)
+      go false WellFormed true d f q = (cc, cc, cc)
+      go false WellFormed false true f q = (cc, cc, cc)
+      go false WellFormed false false true q = (cc, cc, cc)
+      go false WellFormed false false false q = (cc, cc, cc)
+
+  pub records-inside : n * recordWidth ≤ length T′
+  records-inside =
+      let rows = recordRows (recordsOf 0 (tokens m limit text)) in
+      let d : T′ ≡ rows ++ drop (length rows) T = rw e at (w .records) in
+      omega (arith, ap length d, length-append rows (drop (length rows) T), record-rows-length (recordsOf 0 (tokens m limit text)), records-length 0 (tokens m limit text), counted .0)
+
+  pub strings-inside : s ≤ length S′
+  strings-inside =
+      let found = stringsOf m text (tokens m limit text) in
+      let d : S′ ≡ found ++ drop (length found) S = rw e at (w .strings) in
+      omega (arith, ap length d, length-append found (drop (length found) S), counted .1)
+
+  pub reports-inside : k * reportWidth ≤ length R′
+  reports-inside =
+      let found = reportsOf m limit text (tokens m limit text) in
+      let rows = reportRows found in
+      let d : R′ ≡ rows ++ drop (length rows) R = rw e at (w .reports) in
+      omega (arith, ap length d, length-append rows (drop (length rows) R), report-rows-length found, counted .2)
+
+-- the same of one token
+module _ {m : Mode} {limit : ℕ} {text : List ℕ} {p : Place} {T : List ℤ} {S : List ℕ} {R : List ℤ} {r : ReadToken} {T′ : List ℤ} {S′ : List ℕ} {R′ : List ℤ} {s k : ℕ} {q : Place} (w : ReadsToken m limit text p T S R r T′ S′ R′) (e : r ≡ one.One s k q) where
+  t : Token
+  t = nextToken m limit text (p .offset)
+
+  string : List ℕ
+  string = stringOf m (drop (nextToken m limit text (p .offset) .start .offset) text)
+
+  notes : List Note
+  notes = notesOf m limit (drop (nextToken m limit text (p .offset) .start .offset) text)
+
+  one-counted : (s ≡ length string) × (k ≡ length notes)
+  unfolding readTokenAnswer string notes t
+  one-counted =
+      go (ltb maxMessageSize (length text)) (checkOf text) (isPlace text p) (ltb (length T) recordWidth) (ltb (length S) (length string)) (ltb (length R) (length notes * reportWidth)) (sym e ∙ w .answer)
+    where
+      go : (b : Bool) (v : Verdict) (f c d g : Bool)
+          → one.One s k q ≡ pick b one.TooLong (afterCheck v one.NotUtf8 (pick f (pick c one.TokensShort (pick d one.StringsShort (pick g one.ReportsShort (one.One (length string) (length notes) (t .end))))) one.NoPlace))
+          → (s ≡ length string) × (k ≡ length notes)
+      go true v f c d g h = (cc, cc)
+      go false (IllFormed _) f c d g h = (cc, cc)
+      go false WellFormed false c d g h = (cc, cc)
+      go false WellFormed true true d g h = (cc, cc)
+      go false WellFormed true false true g h = (cc, cc)
+      go false WellFormed true false false true h = (cc, cc)
+      go false WellFormed true false false false h = (cc, cc)
+
+  pub one-record-inside : 1 * recordWidth ≤ length T′
+  one-record-inside =
+      let row = recordNumbers (recordOf 0 (nextToken m limit text (p .offset))) in
+      let d : T′ ≡ row ++ drop (length row) T = rw e at (w .record-is) in
+      omega (arith, ap length d, length-append row (drop (length row) T))
+
+  pub one-string-inside : s ≤ length S′
+  unfolding string
+  one-string-inside =
+      let d : S′ ≡ string ++ drop (length string) S = rw e at (w .string) in
+      omega (arith, ap length d, length-append string (drop (length string) S), one-counted .0)
+
+  pub one-reports-inside : k * reportWidth ≤ length R′
+  unfolding notes
+  one-reports-inside =
+      let rows = notesNumbers text (nextToken m limit text (p .offset) .start .offset) notes in
+      let d : R′ ≡ rows ++ drop (length rows) R = rw e at (w .reports) in
+      omega (arith, ap length d, length-append rows (drop (length rows) R), notes-length text (nextToken m limit text (p .offset) .start .offset) notes, one-counted .1)

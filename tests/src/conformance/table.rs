@@ -1,5 +1,7 @@
 //! The texts written by hand, grouped by the rule that they show. Each is read
-//! in both modes.
+//! in both modes, but where it is said otherwise.
+
+use crate::records::Mode;
 
 /// Rule, and its texts, each with a word for what it shows.
 type Rule = (&'static str, &'static [(&'static str, &'static str)]);
@@ -777,6 +779,67 @@ pub const LIMITED: &[(&str, &[u64], &str)] = &[
     ("after-character", &[2, 3], "b\"éé\" c"),
     ("second-literal", &[3], "b\"AAAA\" b\"AAAAAAAA\" d"),
     ("rest-read-on", &[0], "b\"AAAA = 1\" \"x\ny"),
+];
+
+/// Texts that one token is read from at each offset: a report and a comment
+/// with a long character, a String over several lines, an open comment whose
+/// last character the Rust stops inside.
+#[rustfmt::skip]
+pub const ONE_TOKEN: &[(&str, &str)] = &[
+    ("lines", "a = \"x\\qy\" # é\nb"),
+    ("triple-string", "\"\"\"\n a\n \"\"\" b"),
+    ("open-comment", "5s\n/* é"),
+];
+
+/// Ill-formed beside the token, each with the offset that it is read from;
+/// strict.
+#[rustfmt::skip]
+pub const NO_TEXT: &[(&str, &[u8], usize)] = &[
+    ("before-the-token", b"\xFF a", 2),
+    ("after-the-token", b"a b\xC3", 0),
+];
+
+/// "3: an offset beyond the text or inside a character, or a place whose line
+/// or column is untrue for its offset." Each text with offset, line, column;
+/// strict.
+#[rustfmt::skip]
+pub const UNTRUE: &[(&str, &str, [usize; 3])] = &[
+    ("beyond-empty-text", "", [1, 1, 2]),
+    ("beyond-text", "é\nb", [5, 2, 3]),
+    ("beyond-text-after-newline", "a\n", [3, 2, 2]),
+    ("inside-two-byte-character", "é\nb", [1, 1, 2]),
+    ("inside-three-byte-character", "a€", [2, 1, 3]),
+    ("inside-four-byte-character", "😀", [3, 1, 4]),
+    ("largest-offset", "é\nb", [usize::MAX, 2, 2]),
+    ("largest-line", "é\nb", [4, usize::MAX, 2]),
+    ("largest-column", "é\nb", [4, 2, usize::MAX]),
+    ("largest-numbers", "é\nb", [usize::MAX; 3]),
+    ("offset-true-in-32-bits", "é\nb", [4 + (1 << 32), 2, 2]),
+    ("line-true-in-32-bits", "é\nb", [4, 2 + (1 << 32), 2]),
+    ("column-true-in-32-bits", "é\nb", [4, 2, 2 + (1 << 32)]),
+    ("line-too-small", "é\nb", [4, 1, 2]),
+    ("line-too-large", "é\nb", [4, 3, 2]),
+    ("line-too-large-before-newline", "é\nb", [2, 2, 3]),
+    ("line-zero", "é\nb", [0, 0, 1]),
+    ("column-too-small", "é\nb", [4, 2, 1]),
+    ("column-too-large", "é\nb", [4, 2, 3]),
+    ("column-in-characters", "é\nb", [2, 1, 2]),
+    ("column-goes-on-after-newline", "é\nb", [3, 1, 4]),
+    ("column-zero", "é\nb", [0, 1, 0]),
+];
+
+/// Read whole, or where there is an offset one token from it, with buffers
+/// that are exact and shorter.
+#[rustfmt::skip]
+pub const ROOMS: &[(&str, &str, Mode, Option<usize>)] = &[
+    ("whole-empty-text", "", Mode::Strict, None),
+    ("whole-strings", "\"ab\" c \"é\\q\"", Mode::Strict, None),
+    ("whole-reports", "\"ab\" c \"é\\q\"\n\"d", Mode::Tolerant, None),
+    ("whole-dedented", "\"\"\"\n  ab\n  \"\"\"", Mode::Strict, None),
+    ("whole-not-utf8", "\"ab\\q\\xff\"", Mode::Tolerant, None),
+    ("one-string", "\"abc\" \"de\" \"f\"", Mode::Strict, Some(5)),
+    ("one-string-with-report", "\"ab\" \"cd\\q\" \"\\x\"", Mode::Tolerant, Some(4)),
+    ("one-eof", "\"ab\\q\" ", Mode::Tolerant, Some(6)),
 ];
 
 pub const WHITE_SPACE: [char; 24] = [

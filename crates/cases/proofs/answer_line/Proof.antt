@@ -26,11 +26,11 @@ read-bytes-requires c κs = search needs
 array-share-prefix-text : tie.Need-array-share-prefix-text
 array-share-prefix-text c = search needs
 
-slice-aggregate-answer-text : tie.Need-slice-aggregate-answer-text
-slice-aggregate-answer-text c = sym (length-take-le _ _ (c .before .before .read-bytes .ensures))
+slice-aggregate-answer : tie.Need-slice-aggregate-answer
+slice-aggregate-answer c = sym (length-take-le _ _ (c .before .before .read-bytes .ensures))
 
-answer-text-requires : tie.Need-answer-text-requires
-answer-text-requires c κs = search needs
+answer-requires : tie.Need-answer-requires
+answer-requires c κs = search needs
 
 returns : tie.Need-returns
 returns c = search needs
@@ -46,6 +46,6 @@ answer-line-spec =
     slice-aggregate-read-bytes
     read-bytes-requires
     array-share-prefix-text
-    slice-aggregate-answer-text
-    answer-text-requires
+    slice-aggregate-answer
+    answer-requires
     returns)

@@ -1,16 +1,20 @@
--- `replay` is safe and ends: each line has a byte at least. Assumes nothing.
+-- `replay` is safe and ends: each line has a byte at least, and no line asks for more room than there is. Assumes nothing.
 use native.Mathlib.Omega.{arith}
 use Prim.Native.Nat.{_≤_, _-_}
 use lib.ListN.{length}
+use Rattle.cases.specs.Room.{Roomy}
 use borrow.Author.Needs.{needs}
 use Rattle.cases.proofs.replay.Statement.{statement}
 use Rattle.cases.proofs.replay.Tie as tie
 
 abbrev Inv-loop : tie.InvT-loop
-Inv-loop s how₀ i₀ how i = i ≤ length s
+Inv-loop s how₀ i₀ how i = (i ≤ length s) × Roomy how
 
 abbrev μ-loop : tie.MeasureT-loop
 μ-loop s how₀ i₀ how i = length s - i
+
+plainly-requires : tie.Need-plainly-requires Inv-loop μ-loop
+plainly-requires c κs = search needs
 
 loop-holds : tie.Need-loop-holds Inv-loop μ-loop
 loop-holds c = search needs
@@ -59,6 +63,7 @@ replay-spec =
     (tie.spec
     Inv-loop
     μ-loop
+    plainly-requires
     loop-holds
     next-line-requires
     sub-after-line

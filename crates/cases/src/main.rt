@@ -233,54 +233,35 @@ fn from_place(line: &[u8], how: How) -> How
     ensures { λ r. ⌜ Roomy r ⌝ }
 {
     let n = three_of(line);
-    let mode = how.mode;
-    How {
-        mode,
-        limit: how.limit,
-        whole: false,
-        place: Place {
-            offset: n.a as usize,
-            line: n.b as usize,
-            column: n.c as usize,
-        },
-        tokens: how.tokens,
-        strings: how.strings,
-        reports: how.reports,
-    }
+    let place = Place {
+        offset: n.a as usize,
+        line: n.b as usize,
+        column: n.c as usize,
+    };
+    let mut next = how;
+    next.whole = false;
+    next.place = place;
+    next
 }
 
 fn with_room(line: &[u8], how: How) -> How
     ensures { λ r. ⌜ Roomy r ⌝ }
 {
     let n = three_of(line);
-    let mode = how.mode;
-    let place = how.place;
-    How {
-        mode,
-        limit: how.limit,
-        whole: how.whole,
-        place,
-        tokens: parse::at_most(n.a, TOKENS),
-        strings: parse::at_most(n.b, STRINGS),
-        reports: parse::at_most(n.c, REPORTS),
-    }
+    let mut next = how;
+    next.tokens = parse::at_most(n.a, TOKENS);
+    next.strings = parse::at_most(n.b, STRINGS);
+    next.reports = parse::at_most(n.c, REPORTS);
+    next
 }
 
 fn with_limit(line: &[u8], how: How) -> How
     requires { ⌜ Roomy how ⌝ }
     ensures { λ r. ⌜ Roomy r ⌝ }
 {
-    let mode = how.mode;
-    let place = how.place;
-    How {
-        mode,
-        limit: parse::digits(line) as usize,
-        whole: how.whole,
-        place,
-        tokens: how.tokens,
-        strings: how.strings,
-        reports: how.reports,
-    }
+    let mut next = how;
+    next.limit = parse::digits(line) as usize;
+    next
 }
 
 fn with_mode(line: &[u8], how: How) -> How

@@ -152,7 +152,7 @@ fn placed(start: Place, end: Place, x: Lexeme) -> Token
     }
 }
 
-// The token that starts at a place, where no blank stands.
+// The token that starts at a place, after the blanks.
 fn token_from(text: &[u8], start: Place, mode: Mode, limit: usize) -> Token
     requires { ⌜ Walkable (now text) start (start .offset) × Octets (now text) ⌝ }
     ensures { λ r. ⌜ r ≡ tokenOf (now (text .entry)) (foundFrom mode limit (now (text .entry)) (start .offset)) ⌝ }

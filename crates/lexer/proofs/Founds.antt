@@ -10,7 +10,6 @@ use lib.Dec.{ltb, eqb}
 use lib.ListN.{length, take, drop, length-drop}
 use lib.Seq.{getD-drop, drop-drop}
 use borrow.Author.Tests.{eqb-true, eq-eqb}
-use Rattle.base.specs.Choice.{pick}
 use Rattle.base.specs.Bytes.{byte, AreBytes}
 use Rattle.base.specs.Classes.{isSpace}
 use Rattle.base.proofs.Reaches.{reach-ge, reach-le, reach-all, rest-is}
@@ -27,11 +26,9 @@ use Rattle.token.proofs.Places.{place-offset, to-place, flat-along}
 use Rattle.lexeme.specs.Lexeme.{bare}
 use Rattle.lexeme.specs.declared.Lexeme.{Lexeme}
 use Rattle.lexeme.specs.declared.Mode.{Mode}
-use Rattle.lexeme.specs.declared.Mode.the-variants.{Strict}
 use Rattle.lexer.specs.Lexer.{FromQuote, lexemeOf, stringOf, notesOf}
 use Rattle.lexer.specs.Token.{inBlanks, startAt, foundFrom, foundAt, endOf, placed, tokenOf, nextToken, Ending, Placing}
 use Rattle.lexer.specs.declared.next.Found.{Found}
-use Rattle.lexer.specs.declared.next.Token.{Token}
 use Rattle.lexer.proofs.Lexed.{Lexed, lexed}
 
 -- the token found after the offset `at`: an Eof at the text's end, else one of at least a byte
@@ -57,6 +54,14 @@ pub start-le : (text : List ℕ) (at : ℕ) → at ≤ length text → startAt t
 unfolding startAt
 start-le text at h = reach-le inBlanks text at h
 
+start-ge : (text : List ℕ) (at : ℕ) → at ≤ startAt text at
+unfolding startAt
+start-ge text at = reach-ge inBlanks text at
+
+gap-is : (text : List ℕ) (at k : ℕ) → at ≤ k → k < startAt text at → isSpace (byte text k) ≡ true
+unfolding startAt
+gap-is text at k l u = reach-all inBlanks text at k l u
+
 -- the token that starts at an offset: an Eof at the text's end, else one of at least a byte
 module _ (m : Mode) (limit : ℕ) (text : List ℕ) (i : ℕ) (h : i ≤ length text) where
   from-eof : i ≡ length text → lexemeOf m limit (drop i text) ≡ bare K.Eof 0
@@ -69,27 +74,18 @@ module _ (m : Mode) (limit : ℕ) (text : List ℕ) (i : ℕ) (h : i ≤ length 
   from-in : i + lexemeOf m limit (drop i text) .len ≤ length text
   from-in = ⊎-elim (λ e. rw (from-eof e) (omega arith)) (λ l. omega (arith, from-more l .within .ends, length-drop i text)) (eq-or-lt-of-le h)
 
-module _ (m : Mode) (limit : ℕ) (text : List ℕ) (at : ℕ) (h : at ≤ length text) where
-  start-ge : at ≤ startAt text at
-  unfolding startAt
-  start-ge = reach-ge inBlanks text at
-
-  gap-is : (k : ℕ) → at ≤ k → k < startAt text at → isSpace (byte text k) ≡ true
-  unfolding startAt
-  gap-is k l u = reach-all inBlanks text at k l u
-
-  pub next-law : Next m limit text at (foundAt m limit text at)
-  unfolding foundAt
-  next-law =
-      let s = start-le text at h in
-      record {
-        after = start-ge;
-        gap = gap-is;
-        start-in = s;
-        inside = from-in m limit text (startAt text at) s;
-        eof = from-eof m limit text (startAt text at) s;
-        more = from-more m limit text (startAt text at) s;
-      }
+pub next-law : (m : Mode) (limit : ℕ) (text : List ℕ) (at : ℕ) → at ≤ length text → Next m limit text at (foundAt m limit text at)
+unfolding foundAt
+next-law m limit text at h =
+    let s = start-le text at h in
+    record {
+      after = start-ge text at;
+      gap = gap-is text at;
+      start-in = s;
+      inside = from-in m limit text (startAt text at) s;
+      eof = from-eof m limit text (startAt text at) s;
+      more = from-more m limit text (startAt text at) s;
+    }
 
 -- the numbers of the token found, Eof or not
 pub record Bounds (text : List ℕ) (f : Found) : Type 0 where
@@ -135,14 +131,14 @@ module _ (m : Mode) (limit : ℕ) (text : List ℕ) (at : ℕ) (h : at ≤ lengt
 module _ (text : List ℕ) (p : Place) (w : Walkable text p (p .offset)) where
   pub over-blanks : Walkable text p (startAt text (p .offset))
   over-blanks =
-      record { true-place = w .true-place; forward = start-ge Strict 0 text (p .offset) (w .inside); inside = start-le text (p .offset) (w .inside); short = w .short }
+      record { true-place = w .true-place; forward = start-ge text (p .offset); inside = start-le text (p .offset) (w .inside); short = w .short }
 
   -- blanks have no newline
   blanks-flat : Flat (drop (p .offset) text) (startAt text (p .offset) - p .offset)
   unfolding isSpace
   blanks-flat j h z =
       let b : byte text (p .offset + j) ≡ 10 = sym (getD-drop (p .offset) text j 0) ∙ z in
-      true-false (isSpace 10) (rw b at (gap-is Strict 0 text (p .offset) (w .inside) (p .offset + j) (omega arith) (omega arith))) refl
+      true-false (isSpace 10) (rw b at (gap-is text (p .offset) (p .offset + j) (omega arith) (omega arith))) refl
 
   pub blanks-along : _≡_ {A = Place} (record { offset = startAt text (p .offset); line = p .line; column = p .column + (startAt text (p .offset) - p .offset) }) (placeAt text (startAt text (p .offset)))
   blanks-along =

@@ -1,9 +1,8 @@
 -- A mark is a token by its byte alone: by cases on the tests of `markOf`, each of which is one of `classOf`. Assumes nothing.
-use mathlib.Core.Path.{_≡_, refl, sym, _∙_, subst}
-use mathlib.Core.Bool.{true, false, not}
+use mathlib.Core.Path.{_≡_, refl, sym, _∙_}
+use mathlib.Core.Bool.{true, not}
 use mathlib.Core.List.{List, _∷_}
 use Prim.Native.Nat.{ℕ, suc, _+_, _<_}
-use native.Mathlib.Numerals.{add-one}
 use native.Mathlib.Omega.{arith}
 use lib.Dec.{eqb}
 use lib.ListN.{length, drop}
@@ -14,7 +13,6 @@ use Rattle.base.proofs.Tests.{in-text, pick-case}
 use Rattle.token.specs.Kind.{kindNumber}
 use Rattle.token.specs.Place.{placeAt, stepPlace, Walkable, Steppable}
 use Rattle.token.specs.declared.kind.TokenKind.{TokenKind}
-use Rattle.token.specs.declared.kind.TokenKind.the-variants as K
 use Rattle.token.specs.declared.place.Place.{Place}
 use Rattle.token.proofs.Places.{place-step, place-steppable}
 use Rattle.lexeme.specs.declared.Lexeme.{Lexeme}
@@ -24,7 +22,7 @@ use Rattle.lexer.proofs.Founds.{here-placing, here-token}
 use Rattle.lexer.specs.Lexer.{markOf, markLexeme, classOf, classAt, lexBy, lexemeOf}
 
 module _ (m : Mode) (limit : ℕ) (a : ℕ) (s : List ℕ) where
-  -- the kind is no Eof, and the token at the front is the mark of the kind
+  -- where the kind is no Eof, the token at the front is the mark of the kind
   Marked : TokenKind → Type 0
   Marked k = (kindNumber k ≡ 0 → ⊥) → lexemeOf m limit (a ∷ s) ≡ markLexeme k
 
@@ -47,14 +45,14 @@ module _ (m : Mode) (limit : ℕ) (a : ℕ) (s : List ℕ) where
       (λ _. pick-case Marked (eqb a 44) (λ e _. is 44 e refl) (λ _ n. absurd (n refl)))))))))))
 
 -- a byte of the text that is a mark is one of its bytes, and the token that starts with it
-module _ (m : Mode) (limit : ℕ) (text : List ℕ) (i : ℕ) (n : kindNumber (markOf (byte text i)) ≡ 0 → ⊥) where
+module _ (text : List ℕ) (i : ℕ) (n : kindNumber (markOf (byte text i)) ≡ 0 → ⊥) where
   pub mark-in : i < length text
   unfolding markOf kindNumber
   mark-in = in-text (λ a. not (eqb (kindNumber (markOf a)) 0)) text i refl (rw (ne-eqb (kindNumber (markOf (byte text i))) 0 n))
 
-  pub mark-is : lexemeOf m limit (drop i text) ≡ markLexeme (markOf (byte text i))
+  pub mark-is : (m : Mode) (limit : ℕ) → lexemeOf m limit (drop i text) ≡ markLexeme (markOf (byte text i))
   unfolding Marked
-  mark-is = rw (drop-cons text i 0 mark-in) (front m limit (byte text i) (drop (suc i) text) n)
+  mark-is m limit = rw (drop-cons text i 0 mark-in) (front m limit (byte text i) (drop (suc i) text) n)
 
 -- a mark is one byte
 pub mark-len : (k : TokenKind) → markLexeme k .len ≡ 1
@@ -64,14 +62,14 @@ mark-len k = pick-case (λ (x : Lexeme). x .len ≡ 1) (eqb (kindNumber k) 2) (�
 -- the mark that stands at a place of the text
 module _ (m : Mode) (limit : ℕ) (text : List ℕ) (p : Place) (w : Walkable text p (p .offset)) (n : kindNumber (markOf (byte text (p .offset))) ≡ 0 → ⊥) where
   pub mark-steppable : Steppable p
-  mark-steppable = place-steppable text (p .offset) p (w .true-place) (mark-in m limit text (p .offset) n) (w .short)
+  mark-steppable = place-steppable text (p .offset) p (w .true-place) (mark-in text (p .offset) n) (w .short)
 
   pub mark-placing : Placing p (markLexeme (markOf (byte text (p .offset))))
-  mark-placing = here-placing m limit text p w (markLexeme (markOf (byte text (p .offset)))) (sym (mark-is m limit text (p .offset) n))
+  mark-placing = here-placing m limit text p w (markLexeme (markOf (byte text (p .offset)))) (sym (mark-is text (p .offset) n m limit))
 
   pub mark-token : placed (p .offset) p (stepPlace p (byte text (p .offset))) (markLexeme (markOf (byte text (p .offset)))) ≡ tokenOf text (foundFrom m limit text (p .offset))
   mark-token =
       let k = markOf (byte text (p .offset)) in
       let e : stepPlace p (byte text (p .offset)) ≡ placeAt text (p .offset + markLexeme k .len) =
-      place-step text (p .offset) p (w .true-place) (mark-in m limit text (p .offset) n) ∙ rw (mark-len k) in
-      here-token m limit text p w (markLexeme k) (sym (mark-is m limit text (p .offset) n)) (stepPlace p (byte text (p .offset))) e
+      place-step text (p .offset) p (w .true-place) (mark-in text (p .offset) n) ∙ rw (mark-len k) in
+      here-token m limit text p w (markLexeme k) (sym (mark-is text (p .offset) n m limit)) (stepPlace p (byte text (p .offset))) e

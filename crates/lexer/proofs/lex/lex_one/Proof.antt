@@ -1,6 +1,5 @@
 -- `lex_one` is `lexemeOf`: the Eof at the end, else the token of the class that the first bytes choose. Assumes nothing.
 use borrow.Author.Tests.{eq-eqb, ne-eqb}
-use native.Mathlib.Omega.{arith}
 use Rattle.lexer.specs.Lexer.{lexemeOf}
 use borrow.Author.Needs.{needs}
 use Rattle.lexer.proofs.lex.lex_one.Statement.{statement}

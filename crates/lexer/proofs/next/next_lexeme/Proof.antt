@@ -36,7 +36,7 @@ returns c =
     rw (← d .before .before .before .peek .ensures, ← d .before .before .mark .ensures, ← d .before .number .ensures) (d .if1 .taken) in
     rw (
       ← s .skip-spaces .ensures,
-      mark-is (a .args .mode) (a .args .limit) (a .args .text .now) (s .skip-spaces .result) n,
+      mark-is (a .args .text .now) (s .skip-spaces .result) n (a .args .mode) (a .args .limit),
       ← d .before .before .before .peek .ensures,
       ← d .before .before .mark .ensures,
       ← c .mark-lexeme .ensures,

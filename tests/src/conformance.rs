@@ -43,6 +43,17 @@ pub struct Case {
     pub room: Option<Lent>,
 }
 
+/// The whole list, as it is stored.
+pub fn list() -> String {
+    cases().iter().map(Case::to_string).collect()
+}
+
+/// The questions alone: what a program is given that is to answer them.
+pub fn questions() -> String {
+    let asked = |case: &Case| Question(case).to_string();
+    cases().iter().map(asked).collect()
+}
+
 /// The same at each call: first those written by hand, then those that try
 /// a rule with one thing after the other, then those that ask for one token or
 /// lend short buffers, then grown texts.
@@ -362,20 +373,30 @@ impl Case {
     }
 }
 
-/// A case as the list has it: one thing a line, its word first.
-impl fmt::Display for Case {
+/// What a case asks, as the list has it: one thing a line, its word first.
+struct Question<'a>(&'a Case);
+
+impl fmt::Display for Question<'_> {
     fn fmt(&self, f: &mut fmt::Formatter<'_>) -> fmt::Result {
-        writeln!(f, "case {}", self.name)?;
-        writeln!(f, "mode {}", word(self.mode))?;
-        writeln!(f, "limit {}", self.limit)?;
-        if let Some(place) = self.from {
+        let Question(case) = self;
+        writeln!(f, "case {}", case.name)?;
+        writeln!(f, "mode {}", word(case.mode))?;
+        writeln!(f, "limit {}", case.limit)?;
+        if let Some(place) = case.from {
             writeln!(f, "from {}", place_words(place))?;
         }
-        if let Some(room) = self.room {
+        if let Some(room) = case.room {
             let lengths = [room.tokens, room.strings, room.reports];
             writeln!(f, "room {}", joined(&lengths))?;
         }
-        writeln!(f, "text {}", escaped(&self.text))?;
+        writeln!(f, "text {}", escaped(&case.text))
+    }
+}
+
+/// A case as the list has it: the question, then the answer likewise.
+impl fmt::Display for Case {
+    fn fmt(&self, f: &mut fmt::Formatter<'_>) -> fmt::Result {
+        write!(f, "{}", Question(self))?;
         match self.answer() {
             Ok((reading, end)) => {
                 for record in &reading.records {

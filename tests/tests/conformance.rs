@@ -6,7 +6,8 @@ use std::fmt::Debug;
 use std::iter::Peekable;
 use std::str::{FromStr, Lines};
 
-use oracle::conformance::{cases, Case, COUNT, LONGEST_ROOM, LONGEST_TEXT};
+use oracle::conformance::{cases, list, questions, Case};
+use oracle::conformance::{COUNT, LONGEST_ROOM, LONGEST_TEXT};
 use oracle::records::{read_text, read_token, Lent, Mode, Reading, Refusal};
 use oracle::token::Position;
 
@@ -15,8 +16,7 @@ type Answer = Result<(Reading, Option<Position>), Refusal>;
 
 #[test]
 fn the_list_says_what_the_rust_gives() {
-    let cases = cases();
-    let list: String = cases.iter().map(Case::to_string).collect();
+    let (cases, list) = (cases(), list());
     assert_eq!(cases.len(), COUNT);
     let (mut names, mut kinds) = (BTreeSet::new(), BTreeSet::new());
     let (mut reasons, mut refusals) = (BTreeSet::new(), BTreeSet::new());
@@ -54,6 +54,32 @@ fn the_list_says_what_the_rust_gives() {
     assert!(reasons.into_iter().eq(0..=20));
     assert!(refusals.into_iter().eq(2..=6));
     assert!(accepted_from && accepted_room);
+}
+
+/// A program that is to answer the questions is given no answer to copy.
+#[test]
+fn the_questions_hold_no_answer() {
+    let questions = questions();
+    let mut lines = questions.lines().peekable();
+    for case in cases() {
+        assert_eq!(head(&mut lines), case);
+    }
+    assert_eq!(lines.next(), None);
+    let words = ["token", "strings", "report", "place", "refused", "end"];
+    let answers = |line: &&str| words.iter().any(|word| line.starts_with(word));
+    assert_eq!(questions.lines().find(answers), None);
+}
+
+#[test]
+fn the_stored_files_are_what_is_printed() {
+    assert!(stored("stdin") == questions(), "crates/cases/stdin differs");
+    assert!(stored("stdout") == list(), "crates/cases/stdout differs");
+}
+
+/// What the gate runs the program `cases` on, or holds what it prints to.
+fn stored(file: &str) -> String {
+    let folder = concat!(env!("CARGO_MANIFEST_DIR"), "/../crates/cases/");
+    std::fs::read_to_string(folder.to_string() + file).unwrap()
 }
 
 /// What the next case asks.

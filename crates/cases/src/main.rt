@@ -1,13 +1,9 @@
-// Prints the conformance list, which it reads from standard input, anew: it keeps the lines that ask, `case`, `mode`, `limit`, `from`, `room`
-// and `text`, and `end`; it passes over those that answer, and after each text prints what `read_text` or `read_token` answers, in their form.
+// Answers the questions of the conformance list, which it reads from standard input: it prints each line as it is, and after each `text` what
+// `read_text` or `read_token` answers, in the list's form, and `end`.
 mod escaped;
 
-ghost use mathlib.Core.Path.{_≡_};
-ghost use mathlib.Core.Bool.{_&&_};
 ghost use Prim.Native.Nat.{_*_, _≤_};
-ghost use lib.Dec.{eqb};
 ghost use lib.ListN.{length};
-ghost use Rattle.base.specs.Bytes.{byte};
 ghost use Rattle.cases.specs.Room.{Roomy};
 use lexeme::Mode;
 use libc::STDIN_FILENO;
@@ -196,20 +192,6 @@ fn answer_line(line: &[u8], how: How)
     answer(&text[..n], how);
 }
 
-// Whether a line's word starts with these two letters; no two words of the list do alike but `refused` and `report`.
-fn starts(line: &[u8], a: u8, b: u8) -> bool
-    ensures { λ r. ⌜ r ≡ eqb (byte (now (line .entry)) 0) a && eqb (byte (now (line .entry)) 1) b ⌝ }
-{
-    (base::peek(line, 0) == a) & (base::peek(line, 1) == b)
-}
-
-fn is_answer(line: &[u8]) -> bool {
-    starts(line, b't', b'o')
-        | starts(line, b's', b't')
-        | starts(line, b'r', b'e')
-        | starts(line, b'p', b'l')
-}
-
 // The place or the lengths of buffers that a line asks for are its three numbers.
 struct Three {
     a: u64,
@@ -281,27 +263,19 @@ fn with_mode(line: &[u8], how: How) -> How
     }
 }
 
-// How the text after a line is read.
+// How the text after a line is read. The words of a question differ in their first letters.
 fn after_line(line: &[u8], how: How) -> How
     requires { ⌜ Roomy how ⌝ }
     ensures { λ r. ⌜ Roomy r ⌝ }
 {
-    if starts(line, b'c', b'a') {
-        return plainly();
+    match base::peek(line, 0) {
+        b'c' => plainly(),
+        b'm' => with_mode(line, how),
+        b'l' => with_limit(line, how),
+        b'f' => from_place(line, how),
+        b'r' => with_room(line, how),
+        _ => how,
     }
-    if starts(line, b'm', b'o') {
-        return with_mode(line, how);
-    }
-    if starts(line, b'l', b'i') {
-        return with_limit(line, how);
-    }
-    if starts(line, b'f', b'r') {
-        return from_place(line, how);
-    }
-    if starts(line, b'r', b'o') {
-        return with_room(line, how);
-    }
-    how
 }
 
 fn mode_of(line: &[u8]) -> Mode {
@@ -314,12 +288,10 @@ fn mode_of(line: &[u8]) -> Mode {
 fn one_line(line: &[u8], how: How)
     requires { ⌜ Roomy how ⌝ }
 {
-    if is_answer(line) {
-        return;
-    }
     io::write_all(STDOUT_FILENO, line);
-    if starts(line, b't', b'e') {
+    if base::peek(line, 0) == b't' {
         answer_line(line, how);
+        io::write_all(STDOUT_FILENO, b"end\n");
     }
 }
 
@@ -335,7 +307,7 @@ fn replay(s: &[u8]) {
 }
 
 fn main() {
-    let mut list = [0u8; 524288];
-    let n = io::read_full(STDIN_FILENO, &mut list);
-    replay(&list[..n]);
+    let mut questions = [0u8; 262144];
+    let n = io::read_full(STDIN_FILENO, &mut questions);
+    replay(&questions[..n]);
 }

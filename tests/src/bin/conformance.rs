@@ -1,7 +1,17 @@
-//! Prints the conformance list.
+//! Prints the conformance list, or its questions alone.
 
-fn main() {
-    for case in oracle::conformance::cases() {
-        print!("{case}");
+use std::process::ExitCode;
+
+use oracle::conformance::{list, questions};
+
+fn main() -> ExitCode {
+    match std::env::args().nth(1).as_deref() {
+        None => print!("{}", list()),
+        Some("questions") => print!("{}", questions()),
+        Some(_) => {
+            eprintln!("usage: conformance [questions]");
+            return ExitCode::from(2);
+        }
     }
+    ExitCode::SUCCESS
 }

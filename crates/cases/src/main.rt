@@ -8,7 +8,7 @@ ghost use Rattle.cases.specs.Room.{Roomy};
 use lexeme::Mode;
 use libc::STDIN_FILENO;
 use libc::STDOUT_FILENO;
-use notation::numbers::print_number;
+use notation::numbers::put_number;
 use notation::parse;
 use reading::one::ReadToken;
 use reading::one::read_token;
@@ -49,6 +49,13 @@ fn plainly() -> How
         strings: STRINGS,
         reports: REPORTS,
     }
+}
+
+// Prints a number, and the byte after it.
+fn print_number(z: i64, after: u8) {
+    let mut out = [after; 22];
+    let start = put_number(&mut out, z);
+    io::write_all(STDOUT_FILENO, &out[start..]);
 }
 
 // What stands after a number, where these many of its row are left, with itself.

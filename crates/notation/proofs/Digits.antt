@@ -2,17 +2,17 @@
 use mathlib.Core.Path.{_≡_, refl, sym, ap, _∙_}
 use mathlib.Core.Bool.{true, false}
 use mathlib.Core.List.{List, [], _∷_, _++_, append-assoc}
-use Prim.Native.Nat.{ℕ, suc, _+_, _-_, _*_, _/_, _%_, _^_, _≤_, _<_}
+use Prim.Native.Nat.{ℕ, zero, suc, _+_, _-_, _*_, _/_, _%_, _^_, _≤_, _<_}
 use native.Mathlib.Nat.{div-lt-iff-lt-mul, pow-suc, pos-of-ne-zero}
 use native.Mathlib.Omega.{arith}
 use lib.Dec.{eqb, ltb}
 use lib.IntN.{ℤ, pos, negsuc, natAbs}
 use lib.Signed.{ltZ}
-use lib.ListN.{length, drop, set, length-set}
+use lib.ListN.{length, drop, set, length-set, length-append, length-drop}
 use lib.Seq.{drop-cons, drop-set-lt, getD-set-same}
 use borrow.Author.Tests.{eq-eqb, ne-eqb, le-ltb}
 use Rattle.base.specs.Choice.{pick}
-use Rattle.base.proofs.Tests.{true-false}
+use Rattle.base.proofs.Tests.{true-false, pick-case}
 use Rattle.notation.specs.Decimal.{digitsOf, decimal, numberText, EndsWith}
 
 pub record Digits (n : ℕ) (out₀ out : List ℕ) (i rest : ℕ) : Type 0 where
@@ -85,3 +85,36 @@ module _ {out₀ out : List ℕ} {r n : ℕ} (w : EndsWith (decimal n) out₀ ou
   pub plain-text : (z : ℤ) → n ≡ natAbs z → ltZ z (pos 0) ≡ false → EndsWith (numberText z) out₀ out r
   plain-text (pos k) q e = rw q at w
   plain-text (negsuc k) q e = true-false true refl e
+
+-- a text that ends before the last of 22 bytes starts as many bytes before it as it has
+pub text-size : {text out out′ : List ℕ} {r : ℕ} → EndsWith text out out′ r → length out ≡ 22 → r + length text ≡ 21
+text-size {text} {out} {out′} {r} w l =
+    omega (arith, w .inside, w .kept, ap length (w .holds), length-append text (drop 21 out), length-drop r out′, length-drop 21 out)
+
+-- ---- how long a number is
+
+pub digits-most : (k n : ℕ) → length (digitsOf k n) ≤ k
+unfolding digitsOf
+digits-most zero n = omega arith
+digits-most (suc k) n =
+    let last = (48 + n % 10) ∷ [] in
+    rw (length-append (pick (eqb (n / 10) 0) [] (digitsOf k (n / 10))) last)
+    (pick-case (λ (l : List ℕ). length l + 1 ≤ suc k) (eqb (n / 10) 0) (λ b. omega arith) (λ b. omega (arith, digits-most k (n / 10))))
+
+-- a number below 10 ^ (j + 1) has at most j + 1 digits
+pub digits-few : (k j n : ℕ) → n < 10 ^ suc j → length (digitsOf k n) ≤ suc j
+unfolding digitsOf
+digits-few zero j n h = omega arith
+digits-few (suc k) zero n h =
+    let e : n / 10 ≡ 0 = omega arith in
+    rw (eq-eqb (n / 10) 0 e) (omega arith)
+digits-few (suc k) (suc j) n h =
+    let f : n < 10 ^ suc j * 10 = rw (pow-suc 10 (suc j)) at h in
+    let w = digits-few k j (n / 10) (div-lt-iff-lt-mul {k = 10} {x = n} {y = 10 ^ suc j} (omega arith) .1 f) in
+    rw (length-append (pick (eqb (n / 10) 0) [] (digitsOf k (n / 10))) ((48 + n % 10) ∷ []))
+    (pick-case (λ (l : List ℕ). length l + 1 ≤ suc (suc j)) (eqb (n / 10) 0) (λ b. omega arith) (λ b. omega arith))
+
+-- a signed number has at most 21 bytes
+pub number-most : (z : ℤ) → length (numberText z) ≤ 21
+number-most (pos n) = omega (arith, digits-most 20 n)
+number-most (negsuc n) = omega (arith, digits-most 20 (suc n))

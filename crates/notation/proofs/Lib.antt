@@ -1,3 +1,3 @@
 mod Negated
 mod Signs
-mod Digits
+pub mod Digits

@@ -1,10 +1,11 @@
 // Signed numbers in decimal.
 ghost use mathlib.Core.Path.{_≡_};
-ghost use Prim.Native.Nat.{_≤_};
+ghost use mathlib.Core.List.{[], _∷_, _++_};
+ghost use Prim.Native.Nat.{_+_, _≤_};
 ghost use lib.IntN.{natAbs};
 ghost use lib.ListN.{length};
+ghost use lib.Seq.{sets};
 ghost use Rattle.notation.specs.Decimal.{decimal, numberText, EndsWith};
-use libc::STDOUT_FILENO;
 
 // Writes a number in decimal so that it ends before the last of 22 bytes, and gives where it starts. Twenty digits hold any.
 fn put_digits(out: &mut [u8], n: u64) -> usize
@@ -36,7 +37,7 @@ fn magnitude(z: i64) -> u64
 }
 
 // Writes a signed number likewise.
-fn put_number(out: &mut [u8], z: i64) -> usize
+pub fn put_number(out: &mut [u8], z: i64) -> usize
     requires { ⌜ length (now out) ≡ 22 ⌝ }
     ensures { λ r. ⌜ EndsWith (numberText z) (now (out .entry)) (now (out .exit)) r ⌝ }
 {
@@ -49,9 +50,22 @@ fn put_number(out: &mut [u8], z: i64) -> usize
     start
 }
 
-// Prints a number, and the byte after it.
-pub fn print_number(z: i64, after: u8) {
-    let mut out = [after; 22];
-    let start = put_number(&mut out, z);
-    io::write_all(STDOUT_FILENO, &out[start..]);
+// How many bytes a number is written in.
+pub fn number_size(z: i64) -> usize
+    ensures { λ r. ⌜ r ≡ length (numberText z) ⌝ }
+{
+    let mut out = [0u8; 22];
+    21 - put_number(&mut out, z)
+}
+
+// Writes a number and the byte after it from `at` on, and gives where they end.
+pub fn write_number(out: &mut [u8], at: usize, z: i64, after: u8) -> usize
+    requires { ⌜ at + length (numberText z) + 1 ≤ length (now out) ⌝ }
+    ensures { λ r. ⌜ (r ≡ at + length (numberText z) + 1) × (now (out .exit) ≡ sets (now (out .entry)) at (numberText z ++ (after ∷ []))) ⌝ }
+{
+    let mut digits = [after; 22];
+    let start = put_number(&mut digits, z);
+    let size = 22 - start;
+    base::copy(out, at, &digits, start, size);
+    at + size
 }

@@ -129,10 +129,10 @@ place-small text i = go (ltb maxMessageSize (length text)) (checkOf text) (leb i
 
 -- what an accepted reading counts lies in its buffers
 module _ {m : Mode} {limit : ℕ} {text : List ℕ} {T : List ℤ} {S : List ℕ} {R : List ℤ} {r : ReadText} {T′ : List ℤ} {S′ : List ℕ} {R′ : List ℤ} {n s k : ℕ} (w : ReadsText m limit text T S R r T′ S′ R′) (e : r ≡ text-is.Counts n s k) where
-  abbrev Counted : Type 0
+  abbrev pub Counted : Type 0
   Counted = (n ≡ length (tokens m limit text)) × (s ≡ length (stringsOf m text (tokens m limit text))) × (k ≡ length (reportsOf m limit text (tokens m limit text)))
 
-  counted : Counted
+  pub counted : Counted
   unfolding readTextAnswer
   counted =
       go (ltb maxMessageSize (length text)) (checkOf text) (ltb (length T) (length (tokens m limit text) * recordWidth)) (ltb (length S) (length (stringsOf m text (tokens m limit text)))) (ltb (length R) (length (reportsOf m limit text (tokens m limit text)) * reportWidth)) (sym e ∙ w .answer)

@@ -1,0 +1,140 @@
+-- Which lengths suffice for a text of at most 8,192 bytes: nothing is refused but what isn't UTF-8, and a line has at most 48 bytes. By
+-- induction on the tokens. Assumes nothing.
+use mathlib.Core.Path.{_≡_, refl, ap, subst}
+use mathlib.Core.List.{List, [], _∷_}
+use Prim.Native.Nat.{ℕ, _+_, _*_, _≤_, _<_}
+use native.Mathlib.Omega.{arith}
+use lib.ListN.{length, drop, length-append}
+use lib.IntN.{ℤ, pos}
+use borrow.Author.Tests.{le-ltb, le-leb}
+use Rattle.base.specs.Buffers.{overlay}
+use Rattle.limits.specs.Limits.{maxMessageSize, maxBytesLiteralLength}
+use Rattle.token.specs.Kind.{kindNumber}
+use Rattle.token.specs.Layout.{recordWidth, reportWidth}
+use Rattle.token.specs.Place.{placeAt}
+use Rattle.token.specs.declared.place.Place.{Place}
+use Rattle.token.proofs.KindNumbers.{number-le}
+use Rattle.token.proofs.Places.{place-moved}
+use Rattle.utf8.specs.Check.{checkOf}
+use Rattle.utf8.specs.declared.check.Verdict.{Verdict}
+use Rattle.utf8.specs.declared.check.Verdict.the-variants.{WellFormed, IllFormed}
+use Rattle.lexeme.specs.declared.Mode.the-variants.{Strict}
+use Rattle.lexer.specs.Token.{nextToken, stringSize}
+use Rattle.lexer.specs.declared.next.Token.{Token}
+use Rattle.notation.specs.Decimal.{numberText}
+use Rattle.notation.proofs.Digits.{digits-few, number-most}
+use Rattle.reading.specs.Tokens.{tokens}
+use Rattle.reading.specs.Buffers.{recordOf, recordsOf, stringsOf, reportsOf}
+use Rattle.reading.specs.Answers.{afterCheck, readTextAnswer}
+use Rattle.reading.specs.Passes.{Room, sufficeFor}
+use Rattle.reading.specs.declared.text.ReadText.the-variants as text-is
+use Rattle.reading.proofs.Nexts.{Read, reads}
+use Rattle.reading.proofs.From.{by-tokens}
+use Rattle.reading.proofs.Fits.{tokens-fit, suffice-room}
+use Rattle.listing_lines.specs.Lines.{separator, lineText, lineNumbers, linesOf, refusedLine}
+use Rattle.listing_lines.specs.Listing.{readingOf, tokenLines, listingOf, Fills, Lists, printed, Suffice, Prints}
+use Rattle.listing_lines.specs.declared.Listed.{Listed}
+use Rattle.listing_lines.specs.declared.Listed.the-variants.{Bytes, OutShort}
+use Rattle.listing_lines.proofs.Lines.{refused-length}
+
+-- a number below 10,000 has at most four digits, one below 100 at most two
+four : (n : ℕ) → n < 10000 → length (numberText (pos n)) ≤ 4
+four n h = digits-few 20 3 n (omega arith)
+
+two : (n : ℕ) → n < 100 → length (numberText (pos n)) ≤ 2
+two n h = digits-few 20 1 n (omega arith)
+
+-- the line of a token of a text of at most 8,192 bytes
+module _ (text : List ℕ) (h : length text ≤ 8192) where
+  line-fits : (at : ℕ) (t : Token) → Read Strict maxBytesLiteralLength text at t → (p : ℕ) → length (lineText (lineNumbers (recordOf p t))) ≤ 48
+  unfolding lineText
+  line-fits at t r p =
+      let w = place-moved text (t .start .offset) (omega (arith, r .ordered, r .inside)) in
+      let line : t .start .line ≡ placeAt text (t .start .offset) .line = ap (λ (q : Place). q .line) (r .start-true) in
+      let column : t .start .column ≡ placeAt text (t .start .offset) .column = ap (λ (q : Place). q .column) (r .start-true) in
+      let a = four (t .start .offset) (omega (arith, r .ordered, r .inside)) in
+      let b = four (t .end .offset) (omega (arith, r .inside)) in
+      let c = four (t .start .line) (omega (arith, r .ordered, r .inside, w .line)) in
+      let d = four (t .start .column) (omega (arith, r .ordered, r .inside, w .column)) in
+      let e = two (kindNumber (t .kind)) (omega (arith, number-le (t .kind))) in
+      let f = two (t .reason) (omega (arith, r .reason-in)) in
+      let g = number-most (t .nanos) in
+      simp length-append (omega arith)
+
+  lines-fit : (at : ℕ) (t : Token) (ts : List Token) → Read Strict maxBytesLiteralLength text at t → ((p : ℕ) → length (linesOf (recordsOf p ts)) ≤ length ts * 48)
+      → (p : ℕ) → length (linesOf (recordsOf p (t ∷ ts))) ≤ length (t ∷ ts) * 48
+  unfolding recordsOf linesOf
+  lines-fit at t ts r w p =
+      let q = p + stringSize (t .kind) (t .size) in
+      omega (arith, length-append (lineText (lineNumbers (recordOf p t))) (linesOf (recordsOf q ts)), line-fits at t r p, w q)
+
+  none-fit : (p : ℕ) → length (linesOf (recordsOf p [])) ≤ 0
+  unfolding recordsOf linesOf
+  none-fit p = omega arith
+
+  tokens-listed : length (tokenLines text) ≤ 8193 * 48
+  unfolding tokens
+  tokens-listed =
+      let w =
+      by-tokens Strict maxBytesLiteralLength text (λ at ts. (p : ℕ) → length (linesOf (recordsOf p ts)) ≤ length ts * 48)
+      (λ at k e. lines-fit at (nextToken Strict maxBytesLiteralLength text at) [] (reads Strict maxBytesLiteralLength text at k) (λ p. omega (arith, none-fit p)))
+      (λ at ts k c w. lines-fit at (nextToken Strict maxBytesLiteralLength text at) ts (reads Strict maxBytesLiteralLength text at k) w) 0 (omega arith) 0 in
+      omega (arith, w, tokens-fit Strict maxBytesLiteralLength text)
+
+module _ (text : List ℕ) (nt ns nr no : ℕ) (h : Suffice (length text) nt ns no) where
+  room : Room Strict maxBytesLiteralLength text nt ns nr
+  unfolding sufficeFor
+  room =
+      suffice-room Strict maxBytesLiteralLength text nt ns nr (omega (arith, h .text))
+      (rw (
+        le-leb ((length text + 1) * recordWidth) nt (omega (arith, h .text, h .tokens)),
+        le-leb (length text) ns (omega (arith, h .text, h .strings)),
+        le-leb (0 * reportWidth) nr (omega arith),
+      ))
+
+  -- the reading is refused for bad UTF-8 alone
+  pub printed-is : listingOf text (readingOf text nt ns nr) ≡ printed text
+  unfolding readTextAnswer printed
+  printed-is =
+      rw (
+        le-ltb maxMessageSize (length text) (omega (arith, h .text)),
+        le-ltb _ _ (room .for-tokens),
+        le-ltb _ _ (room .for-strings),
+        le-ltb _ _ (room .for-reports),
+      )
+      (go (checkOf text))
+    where
+      go : (v : Verdict) → listingOf text (afterCheck v text-is.NotUtf8 (text-is.Counts (length (tokens Strict maxBytesLiteralLength text)) (length (stringsOf Strict text (tokens Strict maxBytesLiteralLength text))) (length (reportsOf Strict maxBytesLiteralLength text (tokens Strict maxBytesLiteralLength text)))))
+          ≡ afterCheck v (λ n. refusedLine 2) (tokenLines text)
+      go WellFormed = refl
+      go (IllFormed n) = refl
+
+  -- and the out buffer holds what is printed
+  pub printed-fits : length (printed text) ≤ no
+  unfolding printed
+  printed-fits = go (checkOf text)
+    where
+      go : (v : Verdict) → length (afterCheck v (λ n. refusedLine 2) (tokenLines text)) ≤ no
+      go WellFormed = omega (arith, tokens-listed text (h .text), h .out)
+      go (IllFormed n) = omega (arith, refused-length 2, number-most (pos 2), h .out)
+
+-- where the buffers suffice, the listing is what is printed, and no buffer is short
+module _ {text : List ℕ} {T : List ℤ} {S : List ℕ} {R : List ℤ} {O : List ℕ} {r : Listed} {T′ : List ℤ} {S′ : List ℕ} {R′ : List ℤ} {O′ : List ℕ}
+    (h : Suffice (length text) (length T) (length S) (length O)) (w : Lists text T S R O r T′ S′ R′ O′) where
+  filled : Fills (printed text) O r O′
+  filled = subst (λ (l : List ℕ). Fills l O r O′) (printed-is text (length T) (length S) (length R) (length O) h) (w .fills)
+
+  fits : length (printed text) ≤ length O
+  fits = printed-fits text (length T) (length S) (length R) (length O) h
+
+  counted : r ≡ Bytes (length (printed text))
+  counted = rw (le-ltb _ _ fits) at (filled .answer)
+
+  pub prints : {n : ℕ} → r ≡ Bytes n → Prints text O n O′
+  prints {n} e =
+      let q : n ≡ length (printed text) = cc counted in
+      let o : O′ ≡ overlay (printed text) O = rw (le-ltb _ _ fits) at (filled .out) in
+      record { count = q; inside = omega (arith, ap length o, length-append (printed text) (drop (length (printed text)) O)); out = o }
+
+  pub never-short : r ≡ OutShort → ⊥
+  never-short e = let z : _≡_ {A = ℕ} 0 1 = cc counted in omega arith

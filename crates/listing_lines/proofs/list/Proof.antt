@@ -1,0 +1,95 @@
+-- `list` writes the lines of what it has read, or the refusal's. Assumes nothing.
+use mathlib.Core.Path.{_≡_, refl}
+use mathlib.Core.Bool.{false}
+use mathlib.Core.List.{[], _∷_}
+use native.Mathlib.Omega.{arith}
+use lib.Dec.{eqb}
+use types.Run.{OneOf, miss}
+use denote.Enum.Declared.{tagOf}
+use Rattle.reading.specs.Answers.{readTextNumber}
+use Rattle.reading.specs.declared.text.ReadText.{ReadText}
+use Rattle.reading.proofs.text.ReadText.{the-type}
+use Rattle.reading.specs.declared.text.ReadText.the-variants as text-is
+use Rattle.listing_lines.proofs.Listings.{rows-there, tokens-listed, refusal-listed}
+use borrow.Author.Needs.{needs}
+use Rattle.listing_lines.proofs.list.Statement.{statement}
+use Rattle.listing_lines.proofs.list.Tie as tie
+
+-- no other answer than the first has the number 0
+not-counted : (r : ReadText) → OneOf (1 ∷ 2 ∷ 3 ∷ 4 ∷ 5 ∷ []) (tagOf the-type r) → eqb (readTextNumber r) 0 ≡ false
+not-counted (text-is.Counts n s k) h = absurd (miss (1 ∷ 2 ∷ 3 ∷ 4 ∷ 5 ∷ []) 0 tt h)
+not-counted text-is.TooLong h = refl
+not-counted (text-is.NotUtf8 n) h = refl
+not-counted text-is.TokensShort h = refl
+not-counted text-is.StringsShort h = refl
+not-counted text-is.ReportsShort h = refl
+
+read-text-requires : tie.Need-read-text-requires
+read-text-requires c κs = search needs
+
+enum-known-answer : tie.Need-enum-known-answer
+enum-known-answer c = search needs
+
+put-tokens-requires : tie.Need-put-tokens-requires
+put-tokens-requires c κs = let m = c .before .before .before in rows-there (m .before .before .before .before .before .before .read-text .ensures) (m .answer .given .1)
+
+number-requires : tie.Need-number-requires
+number-requires c κs = search needs
+
+put-refusal-requires : tie.Need-put-refusal-requires
+put-refusal-requires c κs = search needs
+
+same-length : tie.Need-same-length
+same-length c = search needs
+
+same-length-2 : tie.Need-same-length-2
+same-length-2 c = search needs
+
+same-length-3 : tie.Need-same-length-3
+same-length-3 c = search needs
+
+same-length-4 : tie.Need-same-length-4
+same-length-4 c = search needs
+
+returns : tie.Need-returns
+returns c =
+    let m = c .before .before .before .before .before .before in
+    tokens-listed (m .before .before .before .before .before .before .read-text .ensures) (m .answer .given .1) (c .before .before .put-tokens .ensures)
+
+same-length-5 : tie.Need-same-length-5
+same-length-5 c = search needs
+
+same-length-6 : tie.Need-same-length-6
+same-length-6 c = search needs
+
+same-length-7 : tie.Need-same-length-7
+same-length-7 c = search needs
+
+same-length-8 : tie.Need-same-length-8
+same-length-8 c = search needs
+
+returns-2 : tie.Need-returns-2
+returns-2 c =
+    let n = c .before .before .before .before in
+    let r = n .before .before .before .before .before .before in
+    refusal-listed (r .read-text .ensures) (n .number .result) (n .number .ensures) (not-counted (r .read-text .result) (n .before .match .keys2)) (c .before .before .put-refusal .ensures)
+
+pub list-spec : {M : Type 1} → statement M
+list-spec =
+    tie.close
+    (tie.spec
+    read-text-requires
+    enum-known-answer
+    put-tokens-requires
+    number-requires
+    put-refusal-requires
+    same-length
+    same-length-2
+    same-length-3
+    same-length-4
+    returns
+    same-length-5
+    same-length-6
+    same-length-7
+    same-length-8
+    returns-2)

@@ -1,0 +1,30 @@
+-- The lines that a listing has: document 01, "The program `listing`".
+use mathlib.Core.List.{List, [], _∷_, _++_}
+use Prim.Native.Nat.{ℕ}
+use lib.IntN.{ℤ, pos}
+use Rattle.notation.specs.Decimal.{numberText}
+use Rattle.token.specs.declared.layout.Record.{Record}
+
+-- what follows a number of a line, these others being after it: a newline where there is none, else a blank
+abbrev pub separator : List ℤ → ℕ
+separator [] = 0x0A
+separator (z ∷ zs) = 0x20
+
+-- numbers in decimal as one line
+unfoldable pub lineText : List ℤ → List ℕ
+lineText [] = []
+lineText (z ∷ zs) = numberText z ++ (separator zs ∷ lineText zs)
+
+-- "It prints start, end, line, column, kind, reason, nanoseconds"
+abbrev pub lineNumbers : Record → List ℤ
+lineNumbers r =
+    pos (r .start) ∷ pos (r .end) ∷ pos (r .line) ∷ pos (r .column) ∷ pos (r .kind) ∷ pos (r .reason) ∷ r .nanos ∷ []
+
+-- "one token a line without a header"
+unfoldable pub linesOf : List Record → List ℕ
+linesOf [] = []
+linesOf (r ∷ rs) = lineText (lineNumbers r) ++ linesOf rs
+
+-- "`refused` and the number", with a blank between
+abbrev pub refusedLine : ℕ → List ℕ
+refusedLine n = 114 ∷ 101 ∷ 102 ∷ 117 ∷ 115 ∷ 101 ∷ 100 ∷ 32 ∷ lineText (pos n ∷ [])

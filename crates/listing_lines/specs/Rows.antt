@@ -1,0 +1,24 @@
+-- What the code reads of a token slice: only the contracts inside the call need it.
+use mathlib.Core.List.{List, [], _∷_, _++_}
+use Prim.Native.Nat.{ℕ, zero, suc, _+_, _*_, _≤_}
+use lib.IntN.{ℤ, pos}
+use lib.ListN.{length, drop, getD}
+use Rattle.limits.specs.Limits.{maxMessageSize}
+use Rattle.token.specs.Layout.{recordWidth}
+use Rattle.listing_lines.specs.Lines.{lineText}
+
+-- the numbers of the line of the record that a slice begins with
+abbrev pub rowNumbers : List ℤ → List ℤ
+rowNumbers T =
+    getD T 3 (pos 0) ∷ getD T 4 (pos 0) ∷ getD T 5 (pos 0) ∷ getD T 6 (pos 0) ∷ getD T 0 (pos 0) ∷ getD T 1 (pos 0)
+    ∷ getD T 11 (pos 0) ∷ []
+
+-- the lines of the first n records of a slice
+unfoldable pub rowLines : ℕ → List ℤ → List ℕ
+rowLines zero T = []
+rowLines (suc n) T = lineText (rowNumbers T) ++ rowLines n (drop recordWidth T)
+
+-- a slice that holds n records, of which a text that is read has no more
+pub record Holds (T : List ℤ) (n : ℕ) : Type 0 where
+  pub inside : n * recordWidth ≤ length T
+  pub few : n ≤ maxMessageSize + 1

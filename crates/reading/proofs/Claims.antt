@@ -31,6 +31,7 @@ use Rattle.reading.specs.Claim as claim
 use Rattle.reading.specs.Claim.{bytesOf, pieces, Tiles, Blank, Gaps, OneEof, TruePlace, Each, TokenPlace, ReportPlace, DurationSum, Demand3}
 use Rattle.reading.proofs.Nexts.{Read, reads}
 use Rattle.reading.proofs.From.{by-tokens}
+use Rattle.reading.proofs.Laid.{string-values}
 
 blank : (b : ℕ) → isSpace b ≡ true → Blank b
 unfolding isSpace
@@ -143,6 +144,7 @@ module _ (m : Mode) (limit : ℕ) (text : List ℕ) where
         as-the-rust = refl;
         strings = refl;
         as-reported = refl;
+        values = string-values m limit text;
         tiles = w .tiles;
         gives-back = w .gives-back;
         gaps = w .gaps;

@@ -1,5 +1,6 @@
 pub mod Nexts
 pub mod From
+pub mod Laid
 pub mod Claims
 pub mod Rows
 pub mod Fits
@@ -11,5 +12,4 @@ pub mod Ones
 pub mod Chains
 pub mod Suffices
 pub mod Uses
-pub mod Laid
 pub mod MiniatureHolds

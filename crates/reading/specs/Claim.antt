@@ -10,6 +10,7 @@ use Rattle.token.specs.Place.{newlines, sinceNewline}
 use Rattle.token.specs.declared.layout.Record.{Record}
 use Rattle.token.specs.declared.layout.Report.{Report}
 use Rattle.lexeme.specs.declared.Mode.{Mode}
+use Rattle.lexer.specs.Lexer.{stringOf}
 use Rattle.reading.specs.Tokens.{tokens}
 use Rattle.reading.specs.Buffers.{recordsOf, stringsOf, reportsOf, recordRows, reportRows}
 
@@ -60,7 +61,13 @@ TokenPlace text r = TruePlace text (r .start) (r .line) (r .column)
 abbrev pub ReportPlace : List ℕ → Report → Type 0
 ReportPlace text r = TruePlace text (r .offset) (r .line) (r .column)
 
--- "A Duration is written in the bytes from its start to its end", and is the sum of its parts within one nanosecond for each written fraction
+-- "A String's value lies in the string buffer": at its value place, as many bytes as its value length, stand the decoded bytes of its token
+abbrev pub ValueIn : Mode → List ℕ → List ℕ → Record → Type 0
+ValueIn m text S r =
+    r .kind ≡ 5 → (r .value + r .size ≤ length S) × (take (r .size) (drop (r .value) S) ≡ stringOf m (drop (r .start) text))
+
+-- "A Duration is written in the bytes from its start to its end", and is the sum of its parts within one nanosecond for each written fraction.
+-- A run is written in one way only: laws `same-written` and `same-sign` of go_duration.
 abbrev pub DurationSum : List ℕ → Record → Type 0
 DurationSum text r = r .kind ≡ 12 → SumOfParts (bytesOf text (r .start) (r .end)) (r .nanos)
 
@@ -75,6 +82,8 @@ pub record Demand3 (m : Mode) (limit : ℕ) (text : List ℕ) (T : List ℤ) (S 
   pub as-the-rust : records ≡ recordsOf 0 (tokens m limit text)
   pub strings : S ≡ stringsOf m text (tokens m limit text)
   pub as-reported : reports ≡ reportsOf m limit text (tokens m limit text)
+  -- each String's bytes in the buffer are its value
+  pub values : Each (ValueIn m text S) records
   -- in order, each after its gap, they give the text back byte for byte
   pub tiles : Tiles text 0 records
   pub gives-back : pieces text 0 records ≡ text

@@ -5,5 +5,4 @@ pub mod Claim
 pub mod Calls
 pub mod Passes
 pub mod Chain
-pub mod Values
 pub mod Miniature

@@ -1,7 +1,7 @@
 // The checks of the text that every call makes first.
 ghost use mathlib.Core.Path.{_≡_};
 ghost use Rattle.reading.specs.Passes.{judgeOf};
-use limits::MAX_MESSAGE_SIZE;
+use limits::message_limit;
 use utf8::check::Verdict;
 use utf8::check::check;
 
@@ -18,7 +18,7 @@ pub enum Judged {
 pub fn judge(text: &[u8]) -> Judged
     ensures { λ r. ⌜ r ≡ judgeOf (now (text .entry)) ⌝ }
 {
-    if text.len() > MAX_MESSAGE_SIZE {
+    if text.len() > message_limit() {
         return Judged::TooLong;
     }
     match check(text) {

@@ -5,8 +5,11 @@ use Rattle.reading.proofs.Judges.{long-judged, fit-judged, ill-judged}
 use Rattle.reading.proofs.judge.judge.Statement.{statement}
 use Rattle.reading.proofs.judge.judge.Tie as tie
 
+message-limit-requires : tie.Need-message-limit-requires
+message-limit-requires c κs = search needs
+
 returns : tie.Need-returns
-returns c = long-judged _ (c .if1 .taken)
+returns c = long-judged _ (rw (c .before .message-limit .ensures) at (c .if1 .taken))
 
 check-requires : tie.Need-check-requires
 check-requires c κs = search needs
@@ -18,15 +21,20 @@ enum-known-at : tie.Need-enum-known-at
 enum-known-at c = search needs
 
 returns-2 : tie.Need-returns-2
-returns-2 c = fit-judged _ (c .before .before .before .if1 .left) (sym (c .before .before .check .ensures .same) ∙ c .enum-told .given .1)
+returns-2 c =
+    let b = c .before .before .before in
+    fit-judged _ (rw (b .before .message-limit .ensures) at (b .if1 .left)) (sym (c .before .before .check .ensures .same) ∙ c .enum-told .given .1)
 
 returns-3 : tie.Need-returns-3
-returns-3 c = ill-judged _ (c .before .before .before .before .if1 .left) (sym (c .before .before .before .check .ensures .same) ∙ c .before .at .given .1)
+returns-3 c =
+    let b = c .before .before .before .before in
+    ill-judged _ (rw (b .before .message-limit .ensures) at (b .if1 .left)) (sym (c .before .before .before .check .ensures .same) ∙ c .before .at .given .1)
 
 pub judge-spec : {M : Type 1} → statement M
 judge-spec =
     tie.close
     (tie.spec
+    message-limit-requires
     returns
     check-requires
     enum-told

@@ -4,3 +4,4 @@ pub mod Classes
 pub mod Runs
 pub mod Blocks
 pub mod Buffers
+pub mod Examples

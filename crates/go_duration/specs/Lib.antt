@@ -4,4 +4,5 @@ pub mod Units
 pub mod Parse
 pub mod Stages
 pub mod Written
+pub mod Words
 pub mod Examples

@@ -18,7 +18,7 @@ use Rattle.base.specs.Blocks.{other}
 use Rattle.base.proofs.Tests.{true-false}
 use Rattle.base.proofs.Reaches.{reach-le, reach-ge, reach-all, reach-fails}
 use Rattle.limits.specs.Limits.{maxMessageSize}
-use Rattle.token.specs.Place.{firstPlace, stepPlace, placeAfter, placeAt, newlines, Flat, sinceNewline, Bounded, Steppable, Walkable}
+use Rattle.token.specs.Place.{firstPlace, newline, stepPlace, placeAfter, placeAt, newlines, Flat, sinceNewline, Bounded, Steppable, Walkable}
 use Rattle.token.specs.declared.place.Place.{Place}
 
 -- the place after two lists is the place after the second from the place after the first
@@ -44,7 +44,7 @@ moved-more false p q n w = record { offset = omega arith; line = omega arith; co
 
 pub moved : (p : Place) (l : List ℕ) → Moved p (placeAfter p l) (length l)
 moved p [] = record { offset = omega arith; line = omega arith; column = omega arith }
-moved p (b ∷ l) = moved-more (eqb b 0x0A) p (placeAfter (stepPlace p b) l) (length l) (moved (stepPlace p b) l)
+moved p (b ∷ l) = moved-more (eqb b newline) p (placeAfter (stepPlace p b) l) (length l) (moved (stepPlace p b) l)
 
 -- the line counts the newlines
 line-more : (x : Bool) (p : Place) (n m : ℕ) → m ≡ stepBy x p .line + n → m ≡ p .line + (pick x 1 0 + n)
@@ -53,12 +53,12 @@ line-more false p n m e = omega arith
 
 pub after-line : (p : Place) (l : List ℕ) → placeAfter p l .line ≡ p .line + newlines l
 after-line p [] = omega arith
-after-line p (b ∷ l) = line-more (eqb b 0x0A) p (newlines l) (placeAfter (stepPlace p b) l .line) (after-line (stepPlace p b) l)
+after-line p (b ∷ l) = line-more (eqb b newline) p (newlines l) (placeAfter (stepPlace p b) l .line) (after-line (stepPlace p b) l)
 
 -- the column counts the bytes since the last newline, n of which stand before the list
 pub after-column : (p : Place) (n : ℕ) (l : List ℕ) → p .column ≡ 1 + n → placeAfter p l .column ≡ 1 + sinceNewline n l
 after-column p n [] e = e
-after-column p n (b ∷ l) e = go (eqb b 0x0A) (λ q m h. after-column q m l h)
+after-column p n (b ∷ l) e = go (eqb b newline) (λ q m h. after-column q m l h)
   where
     go : (x : Bool) → ((q : Place) (m : ℕ) → q .column ≡ 1 + m → placeAfter q l .column ≡ 1 + sinceNewline m l)
         → placeAfter (stepBy x p) l .column ≡ 1 + sinceNewline (pick x 0 (suc n)) l
@@ -109,19 +109,19 @@ flat-from s i (suc n) h f =
     let o : p .offset + n + 1 ≡ p .offset + suc n = omega arith in
     let c : p .column + n + 1 ≡ p .column + suc n = omega arith in
     let e : i + n + 1 ≡ i + suc n = omega arith in
-    let b : eqb (byte s (i + n)) 0x0A ≡ false = ne-eqb (byte s (i + n)) 0x0A (λ z. f n (omega arith) (getD-drop i s n 0 ∙ z)) in
+    let b : eqb (byte s (i + n)) newline ≡ false = ne-eqb (byte s (i + n)) newline (λ z. f n (omega arith) (getD-drop i s n 0 ∙ z)) in
     let g : placeAt s (i + n) ≡ along p n = flat-from s i n (omega arith) (λ j l. f j (omega arith)) in
     let d : placeAt s (i + n + 1) ≡ stepPlace (along p n) (byte s (i + n)) = place-next s (i + n) (omega arith) ∙ ap (λ (q : Place). stepPlace q (byte s (i + n))) g in
     rw (e, b, o, c) at d
 
 -- up to the end of its line
-line-along : (s : List ℕ) (i n : ℕ) → i ≤ length s → i + n ≤ reach (other 0x0A) s i → placeAt s (i + n) ≡ along (placeAt s i) n
-line-along s i n h l = flat-from s i n (omega (arith, l, reach-le (other 0x0A) s i h)) flat
+line-along : (s : List ℕ) (i n : ℕ) → i ≤ length s → i + n ≤ reach (other newline) s i → placeAt s (i + n) ≡ along (placeAt s i) n
+line-along s i n h l = flat-from s i n (omega (arith, l, reach-le (other newline) s i h)) flat
   where
     flat : Flat (drop i s) n
     flat j k z =
-        let e : byte s (i + j) ≡ 0x0A = sym (getD-drop i s j 0) ∙ z in
-        true-false (not (eqb (byte s (i + j)) 0x0A)) (reach-all (other 0x0A) s i (i + j) (omega arith) (omega (arith, l))) (rw e)
+        let e : byte s (i + j) ≡ newline = sym (getD-drop i s j 0) ∙ z in
+        true-false (not (eqb (byte s (i + j)) newline)) (reach-all (other newline) s i (i + j) (omega arith) (omega (arith, l))) (rw e)
 
 -- a place of a text that is short enough, before its end, can be stepped, and the step is the next place
 module _ (s : List ℕ) (i : ℕ) (q : Place) (e : q ≡ placeAt s i) (h : i < length s) where
@@ -156,13 +156,13 @@ module _ (s : List ℕ) (p : Place) (to : ℕ) (w : Walkable s p to) where
         short = omega (arith, k, w .inside, w .short);
       }
 
-  module _ (r : ℕ) (e : r ≡ reach (other 0x0A) s (p .offset)) where
+  module _ (r : ℕ) (e : r ≡ reach (other newline) s (p .offset)) where
     -- up to the end of the line
     pub walk-line : Line s p r
     walk-line =
         let h : p .offset ≤ length s = omega (arith, w .forward, w .inside) in
-        let l : p .offset ≤ r = rw e (reach-ge (other 0x0A) s (p .offset)) in
-        let k : r ≤ length s = rw e (reach-le (other 0x0A) s (p .offset) h) in
+        let l : p .offset ≤ r = rw e (reach-ge (other newline) s (p .offset)) in
+        let k : r ≤ length s = rw e (reach-le (other newline) s (p .offset) h) in
         let n : ℕ = r - p .offset in
         let z : p .offset + n ≡ r = omega arith in
         let a : placeAt s (p .offset + n) ≡ along (placeAt s (p .offset)) n = line-along s (p .offset) n h (omega (arith, e)) in
@@ -174,7 +174,7 @@ module _ (s : List ℕ) (p : Place) (to : ℕ) (w : Walkable s p to) where
     pub walk-newline : r < to → Walkable s (record { offset = r + 1; line = p .line + 1; column = 1 }) to
     walk-newline h =
         let k : r < length s = omega (arith, w .inside) in
-        let b : getD s r 0 ≡ 0x0A = eqb-true _ _ (not-false _ (rw (← e) at (reach-fails (other 0x0A) s (p .offset) (rw (← e) k)))) in
+        let b : getD s r 0 ≡ newline = eqb-true _ _ (not-false _ (rw (← e) at (reach-fails (other newline) s (p .offset) (rw (← e) k)))) in
         let f = rw b at (place-step s r _ (walk-line .end) k) in
         record { true-place = f; forward = omega arith; inside = w .inside; short = w .short }
 

@@ -13,10 +13,14 @@ use Rattle.token.specs.declared.place.Place.{Place}
 abbrev pub firstPlace : Place
 firstPlace = record { offset = 0; line = 1; column = 1 }
 
+-- "a newline (0x0A)"
+abbrev pub newline : ℕ
+newline = 0x0A
+
 -- "A place stepped over one byte gives the next place: after a newline (0x0A) line + 1 and column 1, else column + 1"
 abbrev pub stepPlace : Place → ℕ → Place
 stepPlace p b =
-    pick (eqb b 0x0A) (record { offset = p .offset + 1; line = p .line + 1; column = 1 })
+    pick (eqb b newline) (record { offset = p .offset + 1; line = p .line + 1; column = 1 })
     (record { offset = p .offset + 1; line = p .line; column = p .column + 1 })
 
 -- the place after the bytes of a list
@@ -31,16 +35,16 @@ placeAt s i = placeAfter firstPlace (take i s)
 -- the newlines of a list
 abbrev pub newlines : List ℕ → ℕ
 newlines [] = 0
-newlines (b ∷ t) = pick (eqb b 0x0A) 1 0 + newlines t
+newlines (b ∷ t) = pick (eqb b newline) 1 0 + newlines t
 
 -- none of the first n bytes is a newline
 abbrev pub Flat : List ℕ → ℕ → Type 0
-Flat s n = (j : ℕ) → j < n → byte s j ≡ 0x0A → ⊥
+Flat s n = (j : ℕ) → j < n → byte s j ≡ newline → ⊥
 
 -- the bytes of a list since its last newline, n of them being counted already
 abbrev pub sinceNewline : ℕ → List ℕ → ℕ
 sinceNewline n [] = n
-sinceNewline n (b ∷ t) = sinceNewline (pick (eqb b 0x0A) 0 (suc n)) t
+sinceNewline n (b ∷ t) = sinceNewline (pick (eqb b newline) 0 (suc n)) t
 
 -- what a place of a text has: neither its line nor its column is past the bytes before it
 pub record Bounded (p : Place) : Type 0 where

@@ -1,0 +1,83 @@
+-- Document 01's units and some numbers in digits, apart from the definitions `unitOf` and `valueOf` that the reader of durations and demand 3 share.
+use mathlib.Core.Path.{_≡_, refl}
+use mathlib.Core.List.{List, [], _∷_, map}
+use Prim.Native.Nat.{ℕ}
+use lib.IntN.{pos}
+use lib.Ieee.{mul, div, ofInt, toUnsigned}
+use Rattle.base.specs.Bytes.{sameBytes}
+use Rattle.base.specs.Classes.{isDigit}
+use Rattle.base.specs.Runs as runs
+use Rattle.go_duration.specs.Fraction.{scaleOf, productOf, nanosOf, addDigit, readDigits, fracOf, fractionNanos}
+use Rattle.go_duration.specs.Units.{units, unitOf, valueFrom, valueOf}
+use Rattle.go_duration.specs.Parse.{wholeEnd, hasPoint, fractionStart, fractionEnd, unitEnd, wholeOf, partUnit, partFraction, digitless, partOf, sumFrom, finish, unsigned, parseOf}
+use Rattle.go_duration.specs.declared.parse.Parsed.{Parsed}
+use Rattle.go_duration.specs.declared.parse.Parsed.the-variants.{Nanos}
+
+-- ---- "A unit is its nanoseconds"
+
+pub record Unit : Type 0 where
+  pub bytes : List ℕ
+  pub nanos : ℕ
+
+abbrev unit : List ℕ → ℕ → Unit
+unit l n = record { bytes = l; nanos = n }
+
+abbrev pub unitRows : List Unit
+unitRows =
+    -- "1 for ns"
+    (unit (110 ∷ 115 ∷ []) 1)
+    -- "1,000 for us"
+    ∷ (unit (117 ∷ 115 ∷ []) 1000)
+    -- "also with U+00B5"
+    ∷ (unit (194 ∷ 181 ∷ 115 ∷ []) 1000)
+    -- "or U+03BC for the u"
+    ∷ (unit (206 ∷ 188 ∷ 115 ∷ []) 1000)
+    -- "1,000,000 for ms"
+    ∷ (unit (109 ∷ 115 ∷ []) 1000000)
+    -- "1,000,000,000 for s"
+    ∷ (unit (115 ∷ []) 1000000000)
+    -- "60,000,000,000 for m"
+    ∷ (unit (109 ∷ []) 60000000000)
+    -- "3,600,000,000,000 for h"
+    ∷ (unit (104 ∷ []) 3600000000000)
+    ∷ []
+
+-- what a unit stands for, and what the run of `1` and the unit is as a duration
+pub record Meaning : Type 0 where
+  pub alone : ℕ
+  pub once : Parsed
+
+abbrev meaning : ℕ → Parsed → Meaning
+meaning n p = record { alone = n; once = p }
+
+-- every row of the table holds
+pub units-worked : map (λ (r : Unit). meaning (unitOf (r .bytes)) (parseOf (49 ∷ r .bytes))) unitRows
+    ≡ map (λ (r : Unit). meaning (r .nanos) (Nanos (pos (r .nanos)))) unitRows
+unfolding parseOf unsigned finish sumFrom partOf digitless partFraction partUnit wholeOf unitEnd fractionEnd fractionStart hasPoint wholeEnd units unitOf valueFrom fractionNanos fracOf readDigits addDigit nanosOf productOf scaleOf mul div ofInt toUnsigned runs.run runs.reach isDigit sameBytes
+units-worked = refl
+
+-- ---- the number that digits write
+
+pub record Number : Type 0 where
+  pub digits : List ℕ
+  pub value : ℕ
+
+abbrev number : List ℕ → ℕ → Number
+number l n = record { digits = l; value = n }
+
+abbrev pub numberRows : List Number
+numberRows =
+    -- "Missing digits of a whole number count as 0"
+    (number [] 0)
+    -- `10`
+    ∷ (number (49 ∷ 48 ∷ []) 10)
+    -- `0042`
+    ∷ (number (48 ∷ 48 ∷ 52 ∷ 50 ∷ []) 42)
+    -- `1234567890`
+    ∷ (number (49 ∷ 50 ∷ 51 ∷ 52 ∷ 53 ∷ 54 ∷ 55 ∷ 56 ∷ 57 ∷ 48 ∷ []) 1234567890)
+    ∷ []
+
+-- every row of the table holds
+pub numbers-worked : map (λ (r : Number). valueOf (r .digits)) numberRows ≡ map (λ (r : Number). r .value) numberRows
+unfolding valueFrom
+numbers-worked = refl

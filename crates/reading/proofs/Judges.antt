@@ -1,40 +1,24 @@
--- The checks of the text, against what each answer says of it. By cases on the two tests. Assumes nothing.
-use mathlib.Core.Path.{_≡_, refl, sym}
+-- What each answer of the checks says of the text. By cases on the two tests. Assumes nothing.
+use mathlib.Core.Path.{_≡_, refl, sym, _∙_}
 use mathlib.Core.Bool.{Bool, true, false}
 use mathlib.Core.List.{List}
 use Prim.Native.Nat.{ℕ, _≤_, _<_}
 use native.Mathlib.Omega.{arith}
 use lib.Dec.{ltb}
 use lib.ListN.{length}
-use borrow.Author.Tests.{lt-ltb, le-ltb, ltb-true, ltb-false}
-use Rattle.base.specs.Choice.{pick}
+use borrow.Author.Tests.{ltb-true, ltb-false}
 use Rattle.limits.specs.Limits.{maxMessageSize}
 use Rattle.utf8.specs.Grammar.{Octets}
 use Rattle.utf8.specs.Check.{checkOf}
 use Rattle.utf8.specs.declared.check.Verdict.{Verdict}
 use Rattle.utf8.specs.declared.check.Verdict.the-variants.{WellFormed, IllFormed}
 use Rattle.utf8.proofs.Valid.{checked}
-use Rattle.reading.specs.Answers.{afterCheck}
 use Rattle.reading.specs.Passes.{judgeOf}
 use Rattle.reading.specs.declared.judge.Judged.{Judged}
 use Rattle.reading.specs.declared.judge.Judged.the-variants.{Fit, TooLong, NotUtf8}
 
 module _ (text : List ℕ) where
-  -- from the tests to the answer
-  pub long-judged : maxMessageSize < length text → TooLong ≡ judgeOf text
-  unfolding judgeOf
-  long-judged h = rw (lt-ltb _ _ h)
-
-  module _ (h : length text ≤ maxMessageSize) where
-    pub fit-judged : checkOf text ≡ WellFormed → Fit ≡ judgeOf text
-    unfolding judgeOf
-    fit-judged g = rw (le-ltb _ _ h, g)
-
-    pub ill-judged : {n : ℕ} → checkOf text ≡ IllFormed n → NotUtf8 n ≡ judgeOf text
-    unfolding judgeOf
-    ill-judged g = rw (le-ltb _ _ h, g)
-
-  -- and back
+  -- what each answer says
   pub record Judge (r : Judged) : Type 0 where
     pub long : r ≡ TooLong → maxMessageSize < length text
     pub ill : (n : ℕ) → r ≡ NotUtf8 n → (length text ≤ maxMessageSize) × (checkOf text ≡ IllFormed n)
@@ -42,22 +26,25 @@ module _ (text : List ℕ) where
 
   pub judged : (r : Judged) → r ≡ judgeOf text → Judge r
   unfolding judgeOf
-  judged r e = go (ltb maxMessageSize (length text)) (checkOf text) refl refl e
+  judged r e = go (ltb maxMessageSize (length text)) (checkOf text) refl refl
     where
-      go : (b : Bool) (v : Verdict) → ltb maxMessageSize (length text) ≡ b → checkOf text ≡ v → r ≡ pick b TooLong (afterCheck v NotUtf8 Fit) → Judge r
-      go true v p q e =
+      go : (b : Bool) (v : Verdict) → ltb maxMessageSize (length text) ≡ b → checkOf text ≡ v → Judge r
+      go true v p q =
+          let w : r ≡ TooLong = e ∙ rw p in
           record {
             long = λ f. ltb-true _ _ p;
             ill = λ n f. absurd (let z : _≡_ {A = ℕ} 0 1 = cc in omega arith);
             fit = λ f. absurd (let z : _≡_ {A = ℕ} 0 1 = cc in omega arith);
           }
-      go false (IllFormed n) p q e =
+      go false (IllFormed n) p q =
+          let w : r ≡ NotUtf8 n = e ∙ rw (p, q) in
           record {
             long = λ f. absurd (let z : _≡_ {A = ℕ} 0 1 = cc in omega arith);
             ill = λ k f. let z : n ≡ k = cc in (ltb-false _ _ p, rw z at q);
             fit = λ f. absurd (let z : _≡_ {A = ℕ} 0 1 = cc in omega arith);
           }
-      go false WellFormed p q e =
+      go false WellFormed p q =
+          let w : r ≡ Fit = e ∙ rw (p, q) in
           record {
             long = λ f. absurd (let z : _≡_ {A = ℕ} 0 1 = cc in omega arith);
             ill = λ n f. absurd (let z : _≡_ {A = ℕ} 0 1 = cc in omega arith);

@@ -10,7 +10,7 @@ ghost use Rattle.listing_lines.specs.Lines.{lineText, refusedLine};
 ghost use Rattle.listing_lines.specs.Listing.{Fills, Lists};
 ghost use Rattle.listing_lines.specs.Rows.{rowNumbers, rowLines, Holds};
 use lexeme::Mode;
-use limits::MAX_BYTES_LITERAL_LENGTH;
+use limits::default_bytes_limit;
 use notation::numbers::number_size;
 use notation::numbers::write_number;
 use reading::text::ReadText;
@@ -147,7 +147,7 @@ pub fn list(
     let answer = read_text(
         text,
         Mode::Strict,
-        MAX_BYTES_LITERAL_LENGTH,
+        default_bytes_limit(),
         tokens,
         strings,
         reports,

@@ -24,6 +24,9 @@ not-counted text-is.TokensShort h = refl
 not-counted text-is.StringsShort h = refl
 not-counted text-is.ReportsShort h = refl
 
+default-bytes-limit-requires : tie.Need-default-bytes-limit-requires
+default-bytes-limit-requires c κs = search needs
+
 read-text-requires : tie.Need-read-text-requires
 read-text-requires c κs = search needs
 
@@ -31,7 +34,10 @@ enum-known-answer : tie.Need-enum-known-answer
 enum-known-answer c = search needs
 
 put-tokens-requires : tie.Need-put-tokens-requires
-put-tokens-requires c κs = let m = c .before .before .before in rows-there (m .before .before .before .before .before .before .read-text .ensures) (m .answer .given .1)
+put-tokens-requires c κs =
+    let m = c .before .before .before in
+    let r = m .before .before .before .before .before .before in
+    rows-there (rw (r .before .before .before .before .default-bytes-limit .ensures) at (r .read-text .ensures)) (m .answer .given .1)
 
 number-requires : tie.Need-number-requires
 number-requires c κs = search needs
@@ -54,7 +60,9 @@ same-length-4 c = search needs
 returns : tie.Need-returns
 returns c =
     let m = c .before .before .before .before .before .before in
-    tokens-listed (m .before .before .before .before .before .before .read-text .ensures) (m .answer .given .1) (c .before .before .put-tokens .ensures)
+    let r = m .before .before .before .before .before .before in
+    let w = rw (r .before .before .before .before .default-bytes-limit .ensures) at (r .read-text .ensures) in
+    tokens-listed w (m .answer .given .1) (c .before .before .put-tokens .ensures)
 
 same-length-5 : tie.Need-same-length-5
 same-length-5 c = search needs
@@ -72,12 +80,14 @@ returns-2 : tie.Need-returns-2
 returns-2 c =
     let n = c .before .before .before .before in
     let r = n .before .before .before .before .before .before in
-    refusal-listed (r .read-text .ensures) (n .number .result) (n .number .ensures) (not-counted (r .read-text .result) (n .before .match .keys2)) (c .before .before .put-refusal .ensures)
+    let w = rw (r .before .before .before .before .default-bytes-limit .ensures) at (r .read-text .ensures) in
+    refusal-listed w (n .number .result) (n .number .ensures) (not-counted (r .read-text .result) (n .before .match .keys2)) (c .before .before .put-refusal .ensures)
 
 pub list-spec : {M : Type 1} → statement M
 list-spec =
     tie.close
     (tie.spec
+    default-bytes-limit-requires
     read-text-requires
     enum-known-answer
     put-tokens-requires

@@ -1,5 +1,6 @@
 pub mod Lines
 pub mod Pieces
+pub mod Measures
 pub mod Fills
 pub mod Listings
 pub mod Suffices

@@ -31,8 +31,8 @@ use Rattle.reading.specs.declared.text.ReadText.the-variants as text-is
 use Rattle.reading.proofs.Nexts.{Read, reads}
 use Rattle.reading.proofs.From.{by-tokens}
 use Rattle.reading.proofs.Fits.{tokens-fit, suffice-room}
-use Rattle.listing_lines.specs.Lines.{separator, lineText, lineNumbers, linesOf, refusedLine}
-use Rattle.listing_lines.specs.Listing.{readingOf, tokenLines, listingOf, Fills, Lists, printed, Suffice, Prints}
+use Rattle.listing_lines.specs.Lines.{lineText, lineNumbers, linesOf, refusedLine}
+use Rattle.listing_lines.specs.Listing.{readingOf, tokenLines, listingOf, linesSize, Fills, Lists, printed, Suffice, Prints}
 use Rattle.listing_lines.specs.declared.Listed.{Listed}
 use Rattle.listing_lines.specs.declared.Listed.the-variants.{Bytes, OutShort}
 use Rattle.listing_lines.proofs.Lines.{refused-length}
@@ -109,7 +109,16 @@ module _ (text : List ℕ) (nt ns nr no : ℕ) (h : Suffice (length text) nt ns 
       go WellFormed = refl
       go (IllFormed n) = refl
 
-  -- and the out buffer holds what is printed
+  -- the out buffer is not shorter than the lines
+  pub lines-fit-out : linesSize text ≤ no
+  unfolding linesSize
+  lines-fit-out = rw (le-ltb maxMessageSize (length text) (omega (arith, h .text))) (go (checkOf text))
+    where
+      go : (v : Verdict) → afterCheck v (λ n. 0) (length (tokenLines text)) ≤ no
+      go WellFormed = omega (arith, tokens-listed text (h .text), h .out)
+      go (IllFormed n) = omega arith
+
+  -- and it holds what is printed
   pub printed-fits : length (printed text) ≤ no
   unfolding printed
   printed-fits = go (checkOf text)
@@ -121,11 +130,13 @@ module _ (text : List ℕ) (nt ns nr no : ℕ) (h : Suffice (length text) nt ns 
 -- where the buffers suffice, the listing is what is printed, and no buffer is short
 module _ {text : List ℕ} {T : List ℤ} {S : List ℕ} {R : List ℤ} {O : List ℕ} {r : Listed} {T′ : List ℤ} {S′ : List ℕ} {R′ : List ℤ} {O′ : List ℕ}
     (h : Suffice (length text) (length T) (length S) (length O)) (w : Lists text T S R O r T′ S′ R′ O′) where
-  filled : Fills (printed text) O r O′
-  filled = subst (λ (l : List ℕ). Fills l O r O′) (printed-is text (length T) (length S) (length R) (length O) h) (w .fills)
-
   fits : length (printed text) ≤ length O
   fits = printed-fits text (length T) (length S) (length R) (length O) h
+
+  filled : Fills (printed text) O r O′
+  filled =
+      subst (λ (l : List ℕ). Fills l O r O′) (printed-is text (length T) (length S) (length R) (length O) h)
+      (w .read (omega (arith, lines-fit-out text (length T) (length S) (length R) (length O) h)) .fills)
 
   counted : r ≡ Bytes (length (printed text))
   counted = rw (le-ltb _ _ fits) at (filled .answer)

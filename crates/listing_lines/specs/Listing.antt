@@ -1,13 +1,13 @@
 -- What listing a text answers and writes, for every input.
 use mathlib.Core.Path.{_≡_}
 use mathlib.Core.List.{List}
-use Prim.Native.Nat.{ℕ, _*_, _≤_}
+use Prim.Native.Nat.{ℕ, _*_, _≤_, _<_}
 use lib.Dec.{eqb, ltb}
 use lib.IntN.{ℤ}
 use lib.ListN.{length}
 use Rattle.base.specs.Buffers.{overlay}
 use Rattle.base.specs.Choice.{pick}
-use Rattle.limits.specs.Limits.{maxBytesLiteralLength}
+use Rattle.limits.specs.Limits.{maxMessageSize, maxBytesLiteralLength}
 use Rattle.token.specs.Layout.{recordWidth}
 use Rattle.lexeme.specs.declared.Mode.the-variants.{Strict}
 use Rattle.utf8.specs.Check.{checkOf}
@@ -37,10 +37,27 @@ pub record Fills (lines O : List ℕ) (r : Listed) (O′ : List ℕ) : Type 0 wh
   pub answer : r ≡ pick (ltb (length O) (length lines)) OutShort (Bytes (length lines))
   pub out : O′ ≡ pick (ltb (length O) (length lines)) O (overlay lines O)
 
--- the contract: the buffers of the reading are as the reading leaves them, and the out buffer is filled
-pub record Lists (text : List ℕ) (T : List ℤ) (S : List ℕ) (R : List ℤ) (O : List ℕ) (r : Listed) (T′ : List ℤ) (S′ : List ℕ) (R′ : List ℤ) (O′ : List ℕ) : Type 0 where
+-- how many bytes the lines of a text's tokens have; 0 where the text is refused by its length or as no UTF-8
+unfoldable pub linesSize : List ℕ → ℕ
+linesSize text = pick (ltb maxMessageSize (length text)) 0 (afterCheck (checkOf text) (λ n. 0) (length (tokenLines text)))
+
+-- the out buffer is short, and nothing is written to any buffer
+pub record Short (T : List ℤ) (S : List ℕ) (R : List ℤ) (O : List ℕ) (r : Listed) (T′ : List ℤ) (S′ : List ℕ) (R′ : List ℤ) (O′ : List ℕ) : Type 0 where
+  pub answer : r ≡ OutShort
+  pub tokens : T′ ≡ T
+  pub strings : S′ ≡ S
+  pub reports : R′ ≡ R
+  pub out : O′ ≡ O
+
+-- the text is read, and what is listed of it fills the out buffer
+pub record Read (text : List ℕ) (T : List ℤ) (S : List ℕ) (R : List ℤ) (O : List ℕ) (r : Listed) (T′ : List ℤ) (S′ : List ℕ) (R′ : List ℤ) (O′ : List ℕ) : Type 0 where
   pub reads : ReadsText Strict maxBytesLiteralLength text T S R (readingOf text (length T) (length S) (length R)) T′ S′ R′
   pub fills : Fills (listingOf text (readingOf text (length T) (length S) (length R))) O r O′
+
+-- the contract: an out buffer that is shorter than the lines is told before anything is written
+pub record Lists (text : List ℕ) (T : List ℤ) (S : List ℕ) (R : List ℤ) (O : List ℕ) (r : Listed) (T′ : List ℤ) (S′ : List ℕ) (R′ : List ℤ) (O′ : List ℕ) : Type 0 where
+  pub short : length O < linesSize text → Short T S R O r T′ S′ R′ O′
+  pub read : linesSize text ≤ length O → Read text T S R O r T′ S′ R′ O′
 
 -- what is printed of a text of at most 8,192 bytes: the lines of its tokens, or `refused 2` where it isn't UTF-8
 unfoldable pub printed : List ℕ → List ℕ

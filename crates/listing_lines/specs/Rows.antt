@@ -1,9 +1,8 @@
 -- What the code reads of a token slice: only the contracts inside the call need it.
 use mathlib.Core.List.{List, [], _∷_, _++_}
-use Prim.Native.Nat.{ℕ, zero, suc, _+_, _*_, _≤_}
+use Prim.Native.Nat.{ℕ, zero, suc}
 use lib.IntN.{ℤ, pos}
-use lib.ListN.{length, drop, getD}
-use Rattle.limits.specs.Limits.{maxMessageSize}
+use lib.ListN.{drop, getD}
 use Rattle.token.specs.Layout.{recordWidth}
 use Rattle.listing_lines.specs.Lines.{lineText}
 
@@ -17,8 +16,3 @@ rowNumbers T =
 unfoldable pub rowLines : ℕ → List ℤ → List ℕ
 rowLines zero T = []
 rowLines (suc n) T = lineText (rowNumbers T) ++ rowLines n (drop recordWidth T)
-
--- a slice that holds n records, of which a text that is read has no more
-pub record Holds (T : List ℤ) (n : ℕ) : Type 0 where
-  pub inside : n * recordWidth ≤ length T
-  pub few : n ≤ maxMessageSize + 1

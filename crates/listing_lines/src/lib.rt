@@ -1,21 +1,30 @@
 // The listing of a text, written to a lent buffer: one token a line, or `refused` and the number.
 ghost use mathlib.Core.Path.{_≡_};
-ghost use Prim.Native.Nat.{_+_, _≤_};
+ghost use Prim.Native.Nat.{_+_, _*_, _≤_};
 ghost use lib.Dec.{eqb};
 ghost use lib.ListN.{length, drop};
 ghost use lib.Seq.{sets};
 ghost use Rattle.base.specs.Choice.{pick};
-ghost use Rattle.token.specs.Layout.{recordWidth};
-ghost use Rattle.listing_lines.specs.Lines.{lineText, refusedLine};
-ghost use Rattle.listing_lines.specs.Listing.{Fills, Lists};
-ghost use Rattle.listing_lines.specs.Rows.{rowNumbers, rowLines, Holds};
+ghost use Rattle.limits.specs.Limits.{maxMessageSize};
+ghost use Rattle.token.specs.Layout.{recordWidth, RecordFits};
+ghost use Rattle.utf8.specs.Grammar.{Octets};
+ghost use Rattle.reading.specs.Buffers.{recordOf};
+ghost use Rattle.listing_lines.specs.Lines.{lineText, lineNumbers, refusedLine};
+ghost use Rattle.listing_lines.specs.Listing.{tokenLines, linesSize, Fills, Lists};
+ghost use Rattle.listing_lines.specs.Rows.{rowNumbers, rowLines};
 use lexeme::Mode;
+use lexer::next::Token;
+use lexer::next::next_token;
 use limits::default_bytes_limit;
+use limits::message_limit;
 use notation::numbers::number_size;
 use notation::numbers::write_number;
 use reading::text::ReadText;
 use reading::text::read_text;
 use token::layout::RECORD_WIDTH;
+use token::place::Place;
+use utf8::check::Verdict;
+use utf8::check::check;
 
 // What listing a text answers.
 pub enum Listed {
@@ -77,24 +86,61 @@ fn put_line(row: &[i64], out: &mut [u8], at: usize) -> usize
     end
 }
 
-// How many bytes the lines of the first `count` records have.
-fn lines_size(tokens: &[i64], count: usize) -> usize
-    requires { ⌜ Holds (now tokens) count ⌝ }
-    ensures { λ r. ⌜ r ≡ length (rowLines count (now (tokens .entry))) ⌝ }
+// The numbers of the line of a token.
+fn token_numbers(t: Token) -> [i64; 7]
+    requires { ⌜ RecordFits (recordOf 0 t) ⌝ }
+    ensures { λ r. ⌜ r ≡ lineNumbers (recordOf 0 t) ⌝ }
 {
-    let mut size = 0;
-    let mut i = 0;
-    while i < count {
-        let row = line_numbers(tokens, i * RECORD_WIDTH);
-        size += line_size(&row);
-        i += 1;
-    }
-    size
+    let kind = t.kind;
+    let number = kind.number();
+    let nanos = t.nanos;
+    [
+        t.start.offset as i64,
+        t.end.offset as i64,
+        t.start.line as i64,
+        t.start.column as i64,
+        number as i64,
+        t.reason as i64,
+        nanos,
+    ]
 }
 
-// Writes these lines from the buffer's start.
+// How many bytes the lines of a text's tokens have. It writes nothing, so that the out buffer is measured before the text is read.
+fn lines_size(text: &[u8]) -> usize
+    requires { ⌜ (length (now text) ≤ maxMessageSize) × Octets (now text) ⌝ }
+    ensures { λ r. ⌜ r ≡ length (tokenLines (now (text .entry))) ⌝ }
+{
+    let limit = default_bytes_limit();
+    let mut place = Place::first();
+    let mut size = 0;
+    loop {
+        let t = next_token(text, place, Mode::Strict, limit);
+        let kind = t.kind;
+        let row = token_numbers(t);
+        size += line_size(&row);
+        if kind.number() == 0 {
+            return size;
+        }
+        place = t.end;
+    }
+}
+
+// The same of any text: 0 where it is too long or not UTF-8.
+fn listing_size(text: &[u8]) -> usize
+    ensures { λ r. ⌜ r ≡ linesSize (now (text .entry)) ⌝ }
+{
+    if text.len() > message_limit() {
+        return 0;
+    }
+    match check(text) {
+        Verdict::WellFormed => lines_size(text),
+        Verdict::IllFormed(_) => 0,
+    }
+}
+
+// Writes the lines of the first `count` records from the buffer's start.
 fn put_lines(tokens: &[i64], count: usize, out: &mut [u8])
-    requires { ⌜ Holds (now tokens) count × (length (rowLines count (now tokens)) ≤ length (now out)) ⌝ }
+    requires { ⌜ (count * recordWidth ≤ length (now tokens)) × (length (rowLines count (now tokens)) ≤ length (now out)) ⌝ }
     ensures { λ r. ⌜ now (out .exit) ≡ sets (now (out .entry)) 0 (rowLines count (now (tokens .entry))) ⌝ }
 {
     let mut end = 0;
@@ -106,20 +152,7 @@ fn put_lines(tokens: &[i64], count: usize, out: &mut [u8])
     }
 }
 
-// Writes the lines of the first `count` records, where the buffer holds them all.
-fn put_tokens(tokens: &[i64], count: usize, out: &mut [u8]) -> Listed
-    requires { ⌜ Holds (now tokens) count ⌝ }
-    ensures { λ r. ⌜ Fills (rowLines count (now (tokens .entry))) (now (out .entry)) r (now (out .exit)) ⌝ }
-{
-    let size = lines_size(tokens, count);
-    if out.len() < size {
-        return Listed::OutShort;
-    }
-    put_lines(tokens, count, out);
-    Listed::Bytes(size)
-}
-
-// Writes `refused` and the number likewise.
+// Writes `refused` and the number, where the buffer holds them.
 fn put_refusal(number: u8, out: &mut [u8]) -> Listed
     ensures { λ r. ⌜ Fills (refusedLine number) (now (out .entry)) r (now (out .exit)) ⌝ }
 {
@@ -134,7 +167,7 @@ fn put_refusal(number: u8, out: &mut [u8]) -> Listed
 }
 
 // Lists a text, which is read strictly and with the default limit: the lines of its tokens, or the line of the refusal, from the out
-// buffer's start. Where that buffer is short, nothing is written to it. The other three buffers are the reading's.
+// buffer's start. Where that buffer is short, nothing is written to any buffer. The other three are the reading's.
 pub fn list(
     text: &[u8],
     tokens: &mut [i64],
@@ -144,20 +177,21 @@ pub fn list(
 ) -> Listed
     ensures { λ r. ⌜ Lists (now (text .entry)) (now (tokens .entry)) (now (strings .entry)) (now (reports .entry)) (now (out .entry)) r (now (tokens .exit)) (now (strings .exit)) (now (reports .exit)) (now (out .exit)) ⌝ }
 {
-    let answer = read_text(
-        text,
-        Mode::Strict,
-        default_bytes_limit(),
-        tokens,
-        strings,
-        reports,
-    );
+    let size = listing_size(text);
+    if out.len() < size {
+        return Listed::OutShort;
+    }
+    let limit = default_bytes_limit();
+    let answer = read_text(text, Mode::Strict, limit, tokens, strings, reports);
     match answer {
         ReadText::Counts {
             tokens: count,
             strings: _,
             reports: _,
-        } => put_tokens(tokens, count, out),
+        } => {
+            put_lines(tokens, count, out);
+            Listed::Bytes(size)
+        }
         _ => put_refusal(answer.number(), out),
     }
 }

@@ -40,10 +40,10 @@ module _ (m : Mode) (limit : ℕ) (text : List ℕ) (at : ℕ) (h : at ≤ lengt
   pub read-of : Read m limit text at t
   read-of = subst (λ (u : Token). Read m limit text at u) (sym e) (reads m limit text at h)
 
-  eof-of : kindNumber (t .kind) ≡ 0 → tokensFrom m limit text at ≡ t ∷ []
+  pub eof-of : kindNumber (t .kind) ≡ 0 → tokensFrom m limit text at ≡ t ∷ []
   eof-of = subst (λ (u : Token). kindNumber (u .kind) ≡ 0 → tokensFrom m limit text at ≡ u ∷ []) (sym e) (from-eof m limit text at h)
 
-  more-of : (kindNumber (t .kind) ≡ 0 → ⊥) → tokensFrom m limit text at ≡ t ∷ tokensFrom m limit text (t .end .offset)
+  pub more-of : (kindNumber (t .kind) ≡ 0 → ⊥) → tokensFrom m limit text at ≡ t ∷ tokensFrom m limit text (t .end .offset)
   more-of =
       subst (λ (u : Token). (kindNumber (u .kind) ≡ 0 → ⊥) → tokensFrom m limit text at ≡ u ∷ tokensFrom m limit text (u .end .offset)) (sym e)
       (from-more m limit text at h)

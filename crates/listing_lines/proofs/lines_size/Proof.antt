@@ -1,72 +1,83 @@
--- `lines_size` counts the lines record by record. Assumes nothing.
-use mathlib.Core.Path.{_≡_}
-use Prim.Native.Nat.{_*_, _-_, _≤_}
+-- `lines_size` counts the lines token by token. Assumes nothing.
+use mathlib.Core.Path.{_≡_, sym, _∙_}
+use Prim.Native.Nat.{_-_}
 use native.Mathlib.Omega.{arith}
-use lib.ListN.{length, drop}
+use lib.ListN.{length}
 use borrow.Author.Needs.{needs}
-use Rattle.token.specs.Layout.{recordWidth}
-use Rattle.listing_lines.specs.Lines.{lineText}
-use Rattle.listing_lines.specs.Rows.{rowNumbers, rowLines}
-use Rattle.listing_lines.proofs.Lines.{line-most, rowsFrom, rows-start, rows-at, rows-done}
-use Rattle.listing_lines.proofs.Pieces.{Counting, counting-start, counting-turn, counting-end}
+use Rattle.limits.specs.Limits.{maxBytesLiteralLength}
+use Rattle.lexeme.specs.declared.Mode.the-variants.{Strict}
+use Rattle.lexer.specs.Token.{nextToken}
+use Rattle.reading.specs.Buffers.{recordOf}
+use Rattle.listing_lines.specs.Lines.{lineText, lineNumbers}
+use Rattle.listing_lines.proofs.Measures.{Measuring, measuring-start, token-fits, line-few, measuring-end, measuring-less, measuring-turn}
 use Rattle.listing_lines.proofs.lines_size.Statement.{statement}
 use Rattle.listing_lines.proofs.lines_size.Tie as tie
 
--- no line has more than 154 bytes
 abbrev Inv-loop : tie.InvT-loop
-Inv-loop tokens count size₀ i₀ size i = (i ≤ count) × (size ≤ i * 154) × Counting (rowLines count tokens) size (rowsFrom tokens count i)
+Inv-loop text limit place₀ size₀ place size = Measuring text place size
 
 abbrev μ-loop : tie.MeasureT-loop
-μ-loop tokens count size₀ i₀ size i = count - i
+μ-loop text limit place₀ size₀ place size = length text - place .offset
+
+default-bytes-limit-requires : tie.Need-default-bytes-limit-requires Inv-loop μ-loop
+default-bytes-limit-requires c κs = search needs
+
+first-requires : tie.Need-first-requires Inv-loop μ-loop
+first-requires c κs = search needs
 
 loop-holds : tie.Need-loop-holds Inv-loop μ-loop
-loop-holds c = (omega arith, omega arith, rw rows-start (counting-start _))
+loop-holds c = measuring-start _ _ (c .first .ensures) (c .before .before .before .pre .0)
 
-mul-line-numbers : tie.Need-mul-line-numbers Inv-loop μ-loop
-mul-line-numbers c = search needs
+next-token-requires : tie.Need-next-token-requires Inv-loop μ-loop
+next-token-requires c κs = (c .loop .inv .walkable, c .before .before .before .before .pre .1)
 
-line-numbers-requires : tie.Need-line-numbers-requires Inv-loop μ-loop
-line-numbers-requires c κs = search needs
+-- the token, with the default limit
+token-is : (c : tie.After-next-token Inv-loop μ-loop)
+    → c .next-token .result ≡ nextToken Strict maxBytesLiteralLength (c .before .before .before .before .before .args .text .now) (c .before .loop .place .offset)
+token-is c = rw (c .before .before .before .default-bytes-limit .ensures) at (c .next-token .ensures)
+
+token-numbers-requires : tie.Need-token-numbers-requires Inv-loop μ-loop
+token-numbers-requires c κs =
+    token-fits (c .before .loop .inv) (token-is c) (λ k. c .before .before .before .before .shared-slice-known .given k .fits)
 
 slice-aggregate-line-size : tie.Need-slice-aggregate-line-size Inv-loop μ-loop
 slice-aggregate-line-size c = search needs
 
 line-size-requires : tie.Need-line-size-requires Inv-loop μ-loop
-line-size-requires c κs = rw (c .before .line-numbers .ensures) (omega arith)
+line-size-requires c κs = rw (c .before .token-numbers .ensures) (omega arith)
 
--- the line of the record i, and its size
-size-is : (c : tie.After-line-size Inv-loop μ-loop)
-    → c .line-size .result ≡ length (lineText (rowNumbers (drop (c .before .before .before .before .loop .i * recordWidth) (c .before .before .before .before .before .args .tokens .now))))
-size-is c = rw (c .before .before .line-numbers .ensures) at (c .line-size .ensures)
-
-size-most : (c : tie.After-line-size Inv-loop μ-loop) → c .line-size .result ≤ 154
-size-most c =
-    let l = c .before .before .before .before in
-    omega (arith, size-is c, line-most (rowNumbers (drop (l .loop .i * recordWidth) (l .before .args .tokens .now))))
+-- the size of its line
+size-is : (c : tie.After-line-size Inv-loop μ-loop) → c .line-size .result ≡ length (lineText (lineNumbers (recordOf 0 (c .before .before .before .next-token .result))))
+size-is c = rw (c .before .before .token-numbers .ensures) at (c .line-size .ensures)
 
 add-size : tie.Need-add-size Inv-loop μ-loop
-add-size c = record { fits = omega (arith, size-most c, c .before .before .before .before .before .pre .few) }
+add-size c =
+    let n = c .before .before .before in
+    let w = n .before .loop .inv in
+    record { fits = omega (arith, size-is c, line-few w (token-is n), w .few, w .walkable .inside, w .walkable .short) }
 
-add-i : tie.Need-add-i Inv-loop μ-loop
-add-i c = search needs
+number-requires : tie.Need-number-requires Inv-loop μ-loop
+number-requires c κs = search needs
+
+returns : tie.Need-returns Inv-loop μ-loop
+returns c =
+    let l = c .before .before in
+    let n = l .before .before .before in
+    measuring-end (n .before .loop .inv) (token-is n) (size-is l) (sym (c .before .number .ensures) ∙ c .if1 .taken)
 
 loop-less : tie.Need-loop-less Inv-loop μ-loop
-loop-less c = search needs
+loop-less c =
+    let l = c .before .before .before in
+    let n = l .before .before .before in
+    measuring-less (n .before .loop .inv) (token-is n) (λ z. c .before .if1 .left (c .before .before .number .ensures ∙ z))
 
 loop-again : tie.Need-loop-again Inv-loop μ-loop
 loop-again c =
-    let l = c .before .before .before .before in
-    let T = l .before .args .tokens .now in
-    let i = l .loop .i in (
-      omega arith,
-      omega (arith, size-most c),
-      counting-turn (l .loop .inv .2) (lineText (rowNumbers (drop (i * recordWidth) T))) (rows-at T (l .before .args .count) i (c .before .before .before .loop-test .taken)) (omega (arith, size-is c)),
-    )
-
-returns : tie.Need-returns Inv-loop μ-loop
-returns c = counting-end (c .before .loop .inv .2) (rows-done _ _ _ (c .loop-test .left))
+    let l = c .before .before .before in
+    let n = l .before .before .before in
+    measuring-turn (n .before .loop .inv) (token-is n) (λ z. c .before .if1 .left (c .before .before .number .ensures ∙ z)) (size-is l)
 
 pub lines-size-spec : {M : Type 1} → statement M
 lines-size-spec =
     tie.close
-    (tie.spec Inv-loop μ-loop loop-holds mul-line-numbers line-numbers-requires slice-aggregate-line-size line-size-requires add-size add-i loop-less loop-again returns)
+    (tie.spec Inv-loop μ-loop default-bytes-limit-requires first-requires loop-holds next-token-requires token-numbers-requires slice-aggregate-line-size line-size-requires add-size number-requires returns loop-less loop-again)

@@ -1,4 +1,4 @@
--- `list` writes the lines of what it has read, or the refusal's. Assumes nothing.
+-- `list` measures the lines, then reads, and writes the lines of what it has read, or the refusal's. Assumes nothing.
 use mathlib.Core.Path.{_≡_, refl}
 use mathlib.Core.Bool.{false}
 use mathlib.Core.List.{[], _∷_}
@@ -10,7 +10,8 @@ use Rattle.reading.specs.Answers.{readTextNumber}
 use Rattle.reading.specs.declared.text.ReadText.{ReadText}
 use Rattle.reading.proofs.text.ReadText.{the-type}
 use Rattle.reading.specs.declared.text.ReadText.the-variants as text-is
-use Rattle.listing_lines.proofs.Listings.{rows-there, tokens-listed, refusal-listed}
+use Rattle.reading.proofs.Uses.{records-inside}
+use Rattle.listing_lines.proofs.Listings.{rows-are, size-is, tokens-listed, refusal-listed, short-listed}
 use borrow.Author.Needs.{needs}
 use Rattle.listing_lines.proofs.list.Statement.{statement}
 use Rattle.listing_lines.proofs.list.Tie as tie
@@ -24,6 +25,12 @@ not-counted text-is.TokensShort h = refl
 not-counted text-is.StringsShort h = refl
 not-counted text-is.ReportsShort h = refl
 
+listing-size-requires : tie.Need-listing-size-requires
+listing-size-requires c κs = search needs
+
+returns : tie.Need-returns
+returns c = short-listed _ _ _ _ _ (rw (c .before .listing-size .ensures) at (c .if1 .taken))
+
 default-bytes-limit-requires : tie.Need-default-bytes-limit-requires
 default-bytes-limit-requires c κs = search needs
 
@@ -33,11 +40,14 @@ read-text-requires c κs = search needs
 enum-known-answer : tie.Need-enum-known-answer
 enum-known-answer c = search needs
 
-put-tokens-requires : tie.Need-put-tokens-requires
-put-tokens-requires c κs =
+put-lines-requires : tie.Need-put-lines-requires
+put-lines-requires c κs =
     let m = c .before .before .before in
     let r = m .before .before .before .before .before .before in
-    rows-there (rw (r .before .before .before .before .default-bytes-limit .ensures) at (r .read-text .ensures)) (m .answer .given .1)
+    let i = r .before .before .before .before .before in
+    let w = rw (r .before .before .before .before .default-bytes-limit .ensures) at (r .read-text .ensures) in
+    let e = m .answer .given .1 in
+    (records-inside w e, rw (rows-are w e) (omega (arith, size-is w e, i .before .listing-size .ensures, i .if1 .left)))
 
 number-requires : tie.Need-number-requires
 number-requires c κs = search needs
@@ -57,12 +67,14 @@ same-length-3 c = search needs
 same-length-4 : tie.Need-same-length-4
 same-length-4 c = search needs
 
-returns : tie.Need-returns
-returns c =
+returns-2 : tie.Need-returns-2
+returns-2 c =
     let m = c .before .before .before .before .before .before in
     let r = m .before .before .before .before .before .before in
+    let i = r .before .before .before .before .before in
     let w = rw (r .before .before .before .before .default-bytes-limit .ensures) at (r .read-text .ensures) in
-    tokens-listed w (m .answer .given .1) (c .before .before .put-tokens .ensures)
+    let h = rw (i .before .listing-size .ensures) at (i .if1 .left) in
+    tokens-listed w (m .answer .given .1) (i .before .listing-size .ensures) h (c .before .before .put-lines .ensures)
 
 same-length-5 : tie.Need-same-length-5
 same-length-5 c = search needs
@@ -76,30 +88,34 @@ same-length-7 c = search needs
 same-length-8 : tie.Need-same-length-8
 same-length-8 c = search needs
 
-returns-2 : tie.Need-returns-2
-returns-2 c =
+returns-3 : tie.Need-returns-3
+returns-3 c =
     let n = c .before .before .before .before in
     let r = n .before .before .before .before .before .before in
+    let i = r .before .before .before .before .before in
     let w = rw (r .before .before .before .before .default-bytes-limit .ensures) at (r .read-text .ensures) in
-    refusal-listed w (n .number .result) (n .number .ensures) (not-counted (r .read-text .result) (n .before .match .keys2)) (c .before .before .put-refusal .ensures)
+    let h = rw (i .before .listing-size .ensures) at (i .if1 .left) in
+    refusal-listed w (n .number .result) (n .number .ensures) (not-counted (r .read-text .result) (n .before .match .keys2)) h (c .before .before .put-refusal .ensures)
 
 pub list-spec : {M : Type 1} → statement M
 list-spec =
     tie.close
     (tie.spec
+    listing-size-requires
+    returns
     default-bytes-limit-requires
     read-text-requires
     enum-known-answer
-    put-tokens-requires
+    put-lines-requires
     number-requires
     put-refusal-requires
     same-length
     same-length-2
     same-length-3
     same-length-4
-    returns
+    returns-2
     same-length-5
     same-length-6
     same-length-7
     same-length-8
-    returns-2)
+    returns-3)

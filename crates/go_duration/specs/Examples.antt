@@ -1,4 +1,4 @@
--- Durations worked out by the definitions alone, as one table: document 01's P cases of durations, and the edges of the rules.
+-- Durations worked out by the definitions alone, as one table: document 01's P cases of durations, the edges of the rules, and each unit once.
 use mathlib.Core.Path.{_≡_, refl}
 use mathlib.Core.List.{List, [], _∷_, _++_, map}
 use Prim.Native.Nat.{ℕ}
@@ -11,6 +11,7 @@ use Rattle.base.specs.Runs as runs
 use Rattle.go_duration.specs.Fraction.{scaleOf, productOf, nanosOf, addDigit, readDigits, fracOf, fractionNanos}
 use Rattle.go_duration.specs.Units.{units, unitOf, valueFrom}
 use Rattle.go_duration.specs.Parse.{wholeEnd, hasPoint, fractionStart, fractionEnd, unitEnd, wholeOf, partUnit, partFraction, digitless, partOf, sumFrom, finish, unsigned, parseOf}
+use Rattle.go_duration.specs.Words.{Unit, unitRows}
 use Rattle.go_duration.specs.declared.parse.Parsed.{Parsed}
 use Rattle.go_duration.specs.declared.parse.Parsed.the-variants as parsed
 
@@ -73,7 +74,8 @@ cases =
     ∷ (row (49 ∷ 104 ∷ 49 ∷ 46 ∷ 53 ∷ 109 ∷ 48 ∷ 115 ∷ []) (parsed.Nanos (pos 3690000000000)))
     -- `0.9999999999999999999999999s` (25 nines: one more than the exact whole part)
     ∷ (row (48 ∷ 46 ∷ (replicate 25 57 ++ (115 ∷ []))) (parsed.Nanos (pos 1000000000)))
-    ∷ []
+    -- `1` and each unit of document 01
+    ∷ map (λ (u : Unit). row (49 ∷ u .bytes) (parsed.Nanos (pos (u .nanos)))) unitRows
 
 -- every row of the table holds
 pub worked : map (λ (c : Case). parseOf (c .run)) cases ≡ map (λ (c : Case). c .want) cases

@@ -1,17 +1,9 @@
--- Document 01's units and some numbers in digits, apart from the definitions `unitOf` and `valueOf` that the reader of durations and demand 3 share.
+-- Document 01's units, and some numbers in digits, apart from the definitions that the reader of durations and demand 3 share.
 use mathlib.Core.Path.{_≡_, refl}
 use mathlib.Core.List.{List, [], _∷_, map}
 use Prim.Native.Nat.{ℕ}
-use lib.IntN.{pos}
-use lib.Ieee.{mul, div, ofInt, toUnsigned}
 use Rattle.base.specs.Bytes.{sameBytes}
-use Rattle.base.specs.Classes.{isDigit}
-use Rattle.base.specs.Runs as runs
-use Rattle.go_duration.specs.Fraction.{scaleOf, productOf, nanosOf, addDigit, readDigits, fracOf, fractionNanos}
 use Rattle.go_duration.specs.Units.{units, unitOf, valueFrom, valueOf}
-use Rattle.go_duration.specs.Parse.{wholeEnd, hasPoint, fractionStart, fractionEnd, unitEnd, wholeOf, partUnit, partFraction, digitless, partOf, sumFrom, finish, unsigned, parseOf}
-use Rattle.go_duration.specs.declared.parse.Parsed.{Parsed}
-use Rattle.go_duration.specs.declared.parse.Parsed.the-variants.{Nanos}
 
 -- ---- "A unit is its nanoseconds"
 
@@ -42,18 +34,9 @@ unitRows =
     ∷ (unit (104 ∷ []) 3600000000000)
     ∷ []
 
--- what a unit stands for, and what the run of `1` and the unit is as a duration
-pub record Meaning : Type 0 where
-  pub alone : ℕ
-  pub once : Parsed
-
-abbrev meaning : ℕ → Parsed → Meaning
-meaning n p = record { alone = n; once = p }
-
--- every row of the table holds
-pub units-worked : map (λ (r : Unit). meaning (unitOf (r .bytes)) (parseOf (49 ∷ r .bytes))) unitRows
-    ≡ map (λ (r : Unit). meaning (r .nanos) (Nanos (pos (r .nanos)))) unitRows
-unfolding parseOf unsigned finish sumFrom partOf digitless partFraction partUnit wholeOf unitEnd fractionEnd fractionStart hasPoint wholeEnd units unitOf valueFrom fractionNanos fracOf readDigits addDigit nanosOf productOf scaleOf mul div ofInt toUnsigned runs.run runs.reach isDigit sameBytes
+-- every row of the table holds; the run of `1` and each unit stands in Examples
+pub units-worked : map (λ (r : Unit). unitOf (r .bytes)) unitRows ≡ map (λ (r : Unit). r .nanos) unitRows
+unfolding units unitOf sameBytes
 units-worked = refl
 
 -- ---- the number that digits write

@@ -9,12 +9,14 @@ use Rattle.utf8.specs.Grammar.{utf8-char, charSize, validTo}
 use Rattle.utf8.specs.Check.{checkOf}
 use Rattle.go_duration.specs.Fraction.{scaleOf, productOf, nanosOf, addDigit, readDigits, fracOf, fractionNanos}
 use Rattle.go_duration.specs.Units.{units, unitOf, valueFrom}
-use Rattle.go_duration.specs.Parse.{wholeEnd, hasPoint, fractionStart, fractionEnd, unitEnd, wholeOf, partUnit, partFraction, digitless, partOf, sumFrom, finish, unsigned, parseOf}
+use Rattle.go_duration.specs.Parse.{wholeEnd, hasPoint, fractionStart, fractionEnd, unitEnd, wholeOf, partUnit, partFraction}
+use Rattle.go_duration.specs.Parse.{digitless, partOf, sumFrom, finish, unsigned, parseOf}
 use Rattle.token.specs.Kind.{kindNumber}
 use Rattle.token.specs.Place.{placeAt}
 use Rattle.scan.specs.Run.{inRun, unitPiece}
 use Rattle.scan.specs.Name.{nameKind, lexIdent}
-use Rattle.scan.specs.Number.{withPrecision, pastPoint, pastSign, pastExponent, pastFraction, atDurationUnit, lexDuration, valueEnd, lexTail, lexDigits, atInf, lexNumber}
+use Rattle.scan.specs.Number.{withPrecision, pastPoint, pastSign, pastExponent, pastFraction, atDurationUnit, lexDuration}
+use Rattle.scan.specs.Number.{valueEnd, lexTail, lexDigits, atInf, lexNumber}
 use Rattle.lexer.specs.Lexer.{classOf, classAt, lexBy, lexemeOf}
 use Rattle.lexer.specs.Token.{startAt, foundAt, nextToken, stringSize}
 use Rattle.notation.specs.Decimal.{digitsOf}

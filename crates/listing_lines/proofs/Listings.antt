@@ -9,6 +9,7 @@ use lib.Dec.{eqb, ltb}
 use lib.IntN.{ℤ}
 use lib.ListN.{length, drop}
 use lib.Seq.{sets}
+use borrow.Author.Tests.{ltb-true, ltb-false, le-ltb}
 use Rattle.base.specs.Choice.{pick}
 use Rattle.limits.specs.Limits.{maxMessageSize, maxBytesLiteralLength}
 use Rattle.utf8.specs.Check.{checkOf}
@@ -24,20 +25,22 @@ use Rattle.reading.specs.declared.text.ReadText.the-variants as text-is
 use Rattle.reading.proofs.Rows.{records-length}
 use Rattle.reading.proofs.Uses.{counted}
 use Rattle.listing_lines.specs.Lines.{refusedLine}
-use Rattle.listing_lines.specs.Listing.{tokenLines, listingOf, linesSize, Fills, Lists}
+use Rattle.listing_lines.specs.Listing.{tokenLines, listingOf, linesSize, Fills, Untouched, Lists}
 use Rattle.listing_lines.specs.Rows.{rowLines}
 use Rattle.listing_lines.specs.declared.Listed.{Listed}
 use Rattle.listing_lines.specs.declared.Listed.the-variants.{Bytes, OutShort}
-use Rattle.listing_lines.proofs.Fills.{whole-fills}
+use Rattle.listing_lines.proofs.Fills.{whole-fills, short-out}
 use Rattle.listing_lines.proofs.Lines.{rows-held}
 
-module _ {text : List ℕ} {T : List ℤ} {S : List ℕ} {R : List ℤ} {r : ReadText} {T′ : List ℤ} {S′ : List ℕ} {R′ : List ℤ} (w : ReadsText Strict maxBytesLiteralLength text T S R r T′ S′ R′) where
+module _ {text : List ℕ} {T : List ℤ} {S : List ℕ} {R : List ℤ} {r : ReadText} {T′ : List ℤ} {S′ : List ℕ} {R′ : List ℤ}
+    (w : ReadsText Strict maxBytesLiteralLength text T S R r T′ S′ R′) where
   -- lines that are those of the answer fill the out buffer as the contract says, where it is not shorter than the tokens' lines
-  lists : {lines O : List ℕ} {l : Listed} {O′ : List ℕ} → linesSize text ≤ length O → Fills lines O l O′ → lines ≡ listingOf text r → Lists text T S R O l T′ S′ R′ O′
+  lists : {lines O : List ℕ} {l : Listed} {O′ : List ℕ} → linesSize text ≤ length O → Fills lines O l O′ → lines ≡ listingOf text r
+      → Lists text T S R O l T′ S′ R′ O′
   lists {O = O} {l = l} {O′ = O′} h f e =
       record {
         short = λ k. absurd (omega arith);
-        read = λ k. record {
+        enough = λ k. record {
           reads = subst (λ (x : ReadText). ReadsText Strict maxBytesLiteralLength text T S R x T′ S′ R′) (w .answer) w;
           fills = subst (λ (x : List ℕ). Fills x O l O′) (e ∙ ap (listingOf text) (w .answer)) f;
         };
@@ -69,11 +72,38 @@ module _ {text : List ℕ} {T : List ℤ} {S : List ℕ} {R : List ℤ} {r : Rea
         let z : listingOf text r ≡ tokenLines text = rw e in
         lists h (whole-fills (tokenLines text) O (q ∙ size-is) (rw size-is at h) (o ∙ ap (sets O 0) rows-are)) (sym z)
 
-  pub refusal-listed : (number : ℕ) → number ≡ readTextNumber r → eqb (readTextNumber r) 0 ≡ false → {O : List ℕ} → linesSize text ≤ length O → {l : Listed} {O′ : List ℕ} → Fills (refusedLine number) O l O′
-      → Lists text T S R O l T′ S′ R′ O′
+  pub refusal-listed : (number : ℕ) → number ≡ readTextNumber r → eqb (readTextNumber r) 0 ≡ false → {O : List ℕ} → linesSize text ≤ length O
+      → {l : Listed} {O′ : List ℕ} → Fills (refusedLine number) O l O′ → Lists text T S R O l T′ S′ R′ O′
   refusal-listed number q z h f = lists h f (rw (q, z))
 
 -- a short out buffer leaves everything as it was
 pub short-listed : (text : List ℕ) (T : List ℤ) (S : List ℕ) (R : List ℤ) (O : List ℕ) → length O < linesSize text → Lists text T S R O OutShort T S R O
 short-listed text T S R O h =
-    record { short = λ k. record { answer = refl; tokens = refl; strings = refl; reports = refl; out = refl }; read = λ k. absurd (omega arith) }
+    record {
+      short = λ k. record { answer = refl; tokens = refl; strings = refl; reports = refl; out = refl };
+      enough = λ k. absurd (omega arith);
+    }
+
+-- whenever the answer is that the out buffer is short, nothing is written to any buffer
+module _ {text : List ℕ} {T : List ℤ} {S : List ℕ} {R : List ℤ} {O : List ℕ} {r : Listed} {T′ : List ℤ} {S′ : List ℕ} {R′ : List ℤ} {O′ : List ℕ}
+    (w : Lists text T S R O r T′ S′ R′ O′) (e : r ≡ OutShort) where
+  -- after a reading the line of its refusal was too long: the tokens' lines have been measured
+  refused : (h : linesSize text ≤ length O) (x : ReadText) → ReadsText Strict maxBytesLiteralLength text T S R x T′ S′ R′ → Fills (listingOf text x) O r O′
+      → Untouched T S R O r T′ S′ R′ O′
+  refused h (text-is.Counts n s k) u f =
+      let q : ltb (length O) (length (tokenLines text)) ≡ false = le-ltb _ _ (rw (size-is u refl) at h) in
+      let b = rw q at (f .answer) in
+      let z : _≡_ {A = ℕ} 0 1 = cc in
+      absurd (omega arith)
+  refused h text-is.TooLong u f = record { answer = e; tokens = u .records; strings = u .strings; reports = u .reports; out = short-out f e }
+  refused h (text-is.NotUtf8 n) u f = record { answer = e; tokens = u .records; strings = u .strings; reports = u .reports; out = short-out f e }
+  refused h text-is.TokensShort u f = record { answer = e; tokens = u .records; strings = u .strings; reports = u .reports; out = short-out f e }
+  refused h text-is.StringsShort u f = record { answer = e; tokens = u .records; strings = u .strings; reports = u .reports; out = short-out f e }
+  refused h text-is.ReportsShort u f = record { answer = e; tokens = u .records; strings = u .strings; reports = u .reports; out = short-out f e }
+
+  pub nothing-written : Untouched T S R O r T′ S′ R′ O′
+  nothing-written = go (ltb (length O) (linesSize text)) refl
+    where
+      go : (b : Bool) → ltb (length O) (linesSize text) ≡ b → Untouched T S R O r T′ S′ R′ O′
+      go true q = w .short (ltb-true _ _ q)
+      go false q = let h = ltb-false _ _ q in let f = w .enough h in refused h _ (f .reads) (f .fills)

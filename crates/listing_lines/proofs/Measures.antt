@@ -63,8 +63,9 @@ module _ {text : List ℕ} {p : Place} {n : ℕ} (w : Measuring text p n) {t : T
   pub measuring-end : {k : ℕ} → k ≡ length (lineText (lineNumbers (recordOf 0 t))) → kindNumber (t .kind) ≡ 0 → n + k ≡ length (tokenLines text)
   measuring-end l c =
       let q = eof-of Strict maxBytesLiteralLength text (p .offset) (w .walkable .inside) t e c in
-      let d : linesFrom text (p .offset) ≡ lineText (lineNumbers (recordOf 0 t)) ++ [] = rw q (lines-more t [] ∙ ap (λ (x : List ℕ). lineText (lineNumbers (recordOf 0 t)) ++ x) lines-none) in
-      counting-end (counting-turn (w .counted) (lineText (lineNumbers (recordOf 0 t))) d (omega arith)) refl
+      let line = lineText (lineNumbers (recordOf 0 t)) in
+      let d : linesFrom text (p .offset) ≡ line ++ [] = rw q (lines-more t [] ∙ ap (λ (x : List ℕ). line ++ x) lines-none) in
+      counting-end (counting-turn (w .counted) line d (omega arith)) refl
 
   module _ (c : kindNumber (t .kind) ≡ 0 → ⊥) where
     pub measuring-less : length text - t .end .offset < length text - p .offset
@@ -76,8 +77,9 @@ module _ {text : List ℕ} {p : Place} {n : ℕ} (w : Measuring text p n) {t : T
     measuring-turn l =
         let r = read-of Strict maxBytesLiteralLength text (p .offset) (w .walkable .inside) t e in
         let q = more-of Strict maxBytesLiteralLength text (p .offset) (w .walkable .inside) t e c in
+        let rest = tokensFrom Strict maxBytesLiteralLength text (t .end .offset) in
         record {
           walkable = to-place (t .end) (w .walkable .short) (r .end-true) (r .inside);
           few = omega (arith, w .few, line-few, r .forward c, r .after);
-          counted = counting-turn (w .counted) (lineText (lineNumbers (recordOf 0 t))) (rw q (lines-more t (tokensFrom Strict maxBytesLiteralLength text (t .end .offset)))) (omega arith);
+          counted = counting-turn (w .counted) (lineText (lineNumbers (recordOf 0 t))) (rw q (lines-more t rest)) (omega arith);
         }

@@ -24,7 +24,7 @@ use Rattle.lexer.specs.declared.next.Token.{Token}
 use Rattle.notation.specs.Decimal.{numberText}
 use Rattle.notation.proofs.Digits.{digits-few, number-most}
 use Rattle.reading.specs.Tokens.{tokens}
-use Rattle.reading.specs.Buffers.{recordOf, recordsOf, stringsOf, reportsOf}
+use Rattle.reading.specs.Buffers.{recordOf, recordsOf}
 use Rattle.reading.specs.Answers.{afterCheck, readTextAnswer}
 use Rattle.reading.specs.Passes.{Room, sufficeFor}
 use Rattle.reading.specs.declared.text.ReadText.the-variants as text-is
@@ -61,8 +61,8 @@ module _ (text : List ℕ) (h : length text ≤ 8192) where
       let g = number-most (t .nanos) in
       simp length-append (omega arith)
 
-  lines-fit : (at : ℕ) (t : Token) (ts : List Token) → Read Strict maxBytesLiteralLength text at t → ((p : ℕ) → length (linesOf (recordsOf p ts)) ≤ length ts * 48)
-      → (p : ℕ) → length (linesOf (recordsOf p (t ∷ ts))) ≤ length (t ∷ ts) * 48
+  lines-fit : (at : ℕ) (t : Token) (ts : List Token) → Read Strict maxBytesLiteralLength text at t
+      → ((p : ℕ) → length (linesOf (recordsOf p ts)) ≤ length ts * 48) → (p : ℕ) → length (linesOf (recordsOf p (t ∷ ts))) ≤ length (t ∷ ts) * 48
   unfolding recordsOf linesOf
   lines-fit at t ts r w p =
       let q = p + stringSize (t .kind) (t .size) in
@@ -77,7 +77,8 @@ module _ (text : List ℕ) (h : length text ≤ 8192) where
   tokens-listed =
       let w =
       by-tokens Strict maxBytesLiteralLength text (λ at ts. (p : ℕ) → length (linesOf (recordsOf p ts)) ≤ length ts * 48)
-      (λ at k e. lines-fit at (nextToken Strict maxBytesLiteralLength text at) [] (reads Strict maxBytesLiteralLength text at k) (λ p. omega (arith, none-fit p)))
+      (λ at k e. lines-fit at (nextToken Strict maxBytesLiteralLength text at) [] (reads Strict maxBytesLiteralLength text at k)
+      (λ p. omega (arith, none-fit p)))
       (λ at ts k c w. lines-fit at (nextToken Strict maxBytesLiteralLength text at) ts (reads Strict maxBytesLiteralLength text at k) w) 0 (omega arith) 0 in
       omega (arith, w, tokens-fit Strict maxBytesLiteralLength text)
 
@@ -102,12 +103,12 @@ module _ (text : List ℕ) (nt ns nr no : ℕ) (h : Suffice (length text) nt ns 
         le-ltb _ _ (room .for-strings),
         le-ltb _ _ (room .for-reports),
       )
-      (go (checkOf text))
+      (go (checkOf text) _ _ _)
     where
-      go : (v : Verdict) → listingOf text (afterCheck v text-is.NotUtf8 (text-is.Counts (length (tokens Strict maxBytesLiteralLength text)) (length (stringsOf Strict text (tokens Strict maxBytesLiteralLength text))) (length (reportsOf Strict maxBytesLiteralLength text (tokens Strict maxBytesLiteralLength text)))))
+      go : (v : Verdict) (i j k : ℕ) → listingOf text (afterCheck v text-is.NotUtf8 (text-is.Counts i j k))
           ≡ afterCheck v (λ n. refusedLine 2) (tokenLines text)
-      go WellFormed = refl
-      go (IllFormed n) = refl
+      go WellFormed i j k = refl
+      go (IllFormed n) i j k = refl
 
   -- the out buffer is not shorter than the lines
   pub lines-fit-out : linesSize text ≤ no
@@ -136,7 +137,7 @@ module _ {text : List ℕ} {T : List ℤ} {S : List ℕ} {R : List ℤ} {O : Lis
   filled : Fills (printed text) O r O′
   filled =
       subst (λ (l : List ℕ). Fills l O r O′) (printed-is text (length T) (length S) (length R) (length O) h)
-      (w .read (omega (arith, lines-fit-out text (length T) (length S) (length R) (length O) h)) .fills)
+      (w .enough (omega (arith, lines-fit-out text (length T) (length S) (length R) (length O) h)) .fills)
 
   counted : r ≡ Bytes (length (printed text))
   counted = rw (le-ltb _ _ fits) at (filled .answer)

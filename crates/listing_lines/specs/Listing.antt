@@ -42,7 +42,7 @@ unfoldable pub linesSize : List ℕ → ℕ
 linesSize text = pick (ltb maxMessageSize (length text)) 0 (afterCheck (checkOf text) (λ n. 0) (length (tokenLines text)))
 
 -- the out buffer is short, and nothing is written to any buffer
-pub record Short (T : List ℤ) (S : List ℕ) (R : List ℤ) (O : List ℕ) (r : Listed) (T′ : List ℤ) (S′ : List ℕ) (R′ : List ℤ) (O′ : List ℕ) : Type 0 where
+pub record Untouched (T : List ℤ) (S : List ℕ) (R : List ℤ) (O : List ℕ) (r : Listed) (T′ : List ℤ) (S′ : List ℕ) (R′ : List ℤ) (O′ : List ℕ) : Type 0 where
   pub answer : r ≡ OutShort
   pub tokens : T′ ≡ T
   pub strings : S′ ≡ S
@@ -50,14 +50,16 @@ pub record Short (T : List ℤ) (S : List ℕ) (R : List ℤ) (O : List ℕ) (r 
   pub out : O′ ≡ O
 
 -- the text is read, and what is listed of it fills the out buffer
-pub record Read (text : List ℕ) (T : List ℤ) (S : List ℕ) (R : List ℤ) (O : List ℕ) (r : Listed) (T′ : List ℤ) (S′ : List ℕ) (R′ : List ℤ) (O′ : List ℕ) : Type 0 where
+pub record Filled (text : List ℕ) (T : List ℤ) (S : List ℕ) (R : List ℤ) (O : List ℕ) (r : Listed)
+    (T′ : List ℤ) (S′ : List ℕ) (R′ : List ℤ) (O′ : List ℕ) : Type 0 where
   pub reads : ReadsText Strict maxBytesLiteralLength text T S R (readingOf text (length T) (length S) (length R)) T′ S′ R′
   pub fills : Fills (listingOf text (readingOf text (length T) (length S) (length R))) O r O′
 
 -- the contract: an out buffer that is shorter than the lines is told before anything is written
-pub record Lists (text : List ℕ) (T : List ℤ) (S : List ℕ) (R : List ℤ) (O : List ℕ) (r : Listed) (T′ : List ℤ) (S′ : List ℕ) (R′ : List ℤ) (O′ : List ℕ) : Type 0 where
-  pub short : length O < linesSize text → Short T S R O r T′ S′ R′ O′
-  pub read : linesSize text ≤ length O → Read text T S R O r T′ S′ R′ O′
+pub record Lists (text : List ℕ) (T : List ℤ) (S : List ℕ) (R : List ℤ) (O : List ℕ) (r : Listed)
+    (T′ : List ℤ) (S′ : List ℕ) (R′ : List ℤ) (O′ : List ℕ) : Type 0 where
+  pub short : length O < linesSize text → Untouched T S R O r T′ S′ R′ O′
+  pub enough : linesSize text ≤ length O → Filled text T S R O r T′ S′ R′ O′
 
 -- what is printed of a text of at most 8,192 bytes: the lines of its tokens, or `refused 2` where it isn't UTF-8
 unfoldable pub printed : List ℕ → List ℕ

@@ -36,7 +36,8 @@ number-size-requires c κs = search needs
 
 -- the size of the number at k
 size-is : (c : tie.After-number-size Inv-loop μ-loop)
-    → (c .number-size .result ≡ length (numberText (getD (c .before .before .before .before .args .row .now) (c .before .before .before .loop .k) (pos 0)))) × (c .number-size .result ≤ 21)
+    → (c .number-size .result ≡ length (numberText (getD (c .before .before .before .before .args .row .now) (c .before .before .before .loop .k) (pos 0))))
+    × (c .number-size .result ≤ 21)
 size-is c =
     let z = getD (c .before .before .before .before .args .row .now) (c .before .before .before .loop .k) (pos 0) in
     let f : SFits w64 z = search needs in
@@ -62,7 +63,8 @@ loop-again c =
     let l = c .before .before .before in
     let row = l .before .args .row .now in
     let k = l .loop .k in
-    (omega arith, counting-turn (l .loop .inv .1) (numberAt row k) (line-at row k (c .before .before .loop-test .taken)) (omega (arith, size-is c, number-length row k)))
+    let e = line-at row k (c .before .before .loop-test .taken) in
+    (omega arith, counting-turn (l .loop .inv .1) (numberAt row k) e (omega (arith, size-is c, number-length row k)))
 
 returns : tie.Need-returns Inv-loop μ-loop
 returns c = counting-end (c .before .loop .inv .1) (line-done _ _ (c .loop-test .left))

@@ -33,7 +33,8 @@ next-token-requires c κs = (c .loop .inv .walkable, c .before .before .before .
 
 -- the token, with the default limit
 token-is : (c : tie.After-next-token Inv-loop μ-loop)
-    → c .next-token .result ≡ nextToken Strict maxBytesLiteralLength (c .before .before .before .before .before .args .text .now) (c .before .loop .place .offset)
+    → c .next-token .result
+    ≡ nextToken Strict maxBytesLiteralLength (c .before .before .before .before .before .args .text .now) (c .before .loop .place .offset)
 token-is c = rw (c .before .before .before .default-bytes-limit .ensures) at (c .next-token .ensures)
 
 token-numbers-requires : tie.Need-token-numbers-requires Inv-loop μ-loop
@@ -47,7 +48,8 @@ line-size-requires : tie.Need-line-size-requires Inv-loop μ-loop
 line-size-requires c κs = rw (c .before .token-numbers .ensures) (omega arith)
 
 -- the size of its line
-size-is : (c : tie.After-line-size Inv-loop μ-loop) → c .line-size .result ≡ length (lineText (lineNumbers (recordOf 0 (c .before .before .before .next-token .result))))
+size-is : (c : tie.After-line-size Inv-loop μ-loop)
+    → c .line-size .result ≡ length (lineText (lineNumbers (recordOf 0 (c .before .before .before .next-token .result))))
 size-is c = rw (c .before .before .token-numbers .ensures) at (c .line-size .ensures)
 
 add-size : tie.Need-add-size Inv-loop μ-loop
@@ -80,4 +82,5 @@ loop-again c =
 pub lines-size-spec : {M : Type 1} → statement M
 lines-size-spec =
     tie.close
-    (tie.spec Inv-loop μ-loop default-bytes-limit-requires first-requires loop-holds next-token-requires token-numbers-requires slice-aggregate-line-size line-size-requires add-size number-requires returns loop-less loop-again)
+    (tie.spec Inv-loop μ-loop default-bytes-limit-requires first-requires loop-holds next-token-requires token-numbers-requires
+    slice-aggregate-line-size line-size-requires add-size number-requires returns loop-less loop-again)

@@ -95,7 +95,8 @@ returns-3 c =
     let i = r .before .before .before .before .before in
     let w = rw (r .before .before .before .before .default-bytes-limit .ensures) at (r .read-text .ensures) in
     let h = rw (i .before .listing-size .ensures) at (i .if1 .left) in
-    refusal-listed w (n .number .result) (n .number .ensures) (not-counted (r .read-text .result) (n .before .match .keys2)) h (c .before .before .put-refusal .ensures)
+    let z = not-counted (r .read-text .result) (n .before .match .keys2) in
+    refusal-listed w (n .number .result) (n .number .ensures) z h (c .before .before .put-refusal .ensures)
 
 pub list-spec : {M : Type 1} → statement M
 list-spec =

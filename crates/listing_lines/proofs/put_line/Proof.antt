@@ -71,4 +71,5 @@ returns c = writing-end (c .before .loop .inv .1) (line-done _ _ (c .loop-test .
 pub put-line-spec : {M : Type 1} → statement M
 put-line-spec =
     tie.close
-    (tie.spec Inv-loop μ-loop loop-holds mul-z shared-slice-copy-out-z add-k sub-separator-before separator-before-requires write-number-requires loop-less loop-again same-length returns)
+    (tie.spec Inv-loop μ-loop loop-holds mul-z shared-slice-copy-out-z add-k sub-separator-before separator-before-requires
+    write-number-requires loop-less loop-again same-length returns)

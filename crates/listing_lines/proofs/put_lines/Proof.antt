@@ -67,4 +67,5 @@ returns c = writing-end (c .before .loop .inv .1) (rows-done _ _ _ (c .loop-test
 pub put-lines-spec : {M : Type 1} → statement M
 put-lines-spec =
     tie.close
-    (tie.spec Inv-loop μ-loop loop-holds mul-line-numbers line-numbers-requires slice-aggregate-put-line put-line-requires add-i loop-less loop-again same-length returns)
+    (tie.spec Inv-loop μ-loop loop-holds mul-line-numbers line-numbers-requires slice-aggregate-put-line put-line-requires
+    add-i loop-less loop-again same-length returns)

@@ -55,7 +55,9 @@ write-number-requires c κs =
 
 -- both stores are one
 written : (c : tie.After-slice-known3)
-    → c .before .before .write-number .last .0 ≡ sets (c .before .before .before .before .before .before .before .before .before .before .before .before .args .out .now) 0 (refusedLine (c .before .before .before .before .before .before .before .before .before .before .before .before .args .number))
+    → c .before .before .write-number .last .0
+    ≡ sets (c .before .before .before .before .before .before .before .before .before .before .before .before .args .out .now) 0
+    (refusedLine (c .before .before .before .before .before .before .before .before .before .before .before .before .args .number))
 unfolding lineText
 written c =
     let d = c .before .before .before .before .before .before in
@@ -74,7 +76,8 @@ returns-2 c =
     let i = c .before .before .before .before .before .before .before .before .before in
     let a = i .before .before .before in
     let n = refused-length (a .args .number) in
-    whole-fills (refusedLine (a .args .number)) (a .args .out .now) (omega (arith, size-is (i .before))) (omega (arith, i .if1 .left, size-is (i .before))) (written c)
+    let s = size-is (i .before) in
+    whole-fills (refusedLine (a .args .number)) (a .args .out .now) (omega arith) (omega (arith, i .if1 .left)) (written c)
 
 pub put-refusal-spec : {M : Type 1} → statement M
 put-refusal-spec =

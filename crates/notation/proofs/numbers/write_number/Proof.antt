@@ -27,7 +27,8 @@ slice-aggregate-copy c = search needs
 
 -- what the 22 bytes hold
 written : (d : tie.After-put-number)
-    → EndsWith (numberText (d .before .before .before .args .z)) (replicate 22 (d .before .before .before .args .after)) (d .put-number .last .0) (d .put-number .result)
+    → EndsWith (numberText (d .before .before .before .args .z)) (replicate 22 (d .before .before .before .args .after))
+    (d .put-number .last .0) (d .put-number .result)
 written d = let a = d .before .before .before in rw (toZ-ofZ w64 (a .args .z) (a .fits .z)) at (d .put-number .ensures)
 
 copy-requires : tie.Need-copy-requires

@@ -1,3 +1,4 @@
+pub mod Decimals
 pub mod Lines
 pub mod Pieces
 pub mod Measures

@@ -16,15 +16,14 @@ use lexeme::Mode;
 use lexer::next::Token;
 use lexer::next::next_token;
 use limits::default_bytes_limit;
-use limits::message_limit;
 use notation::numbers::number_size;
 use notation::numbers::write_number;
+use reading::judge::Judged;
+use reading::judge::judge;
 use reading::text::ReadText;
 use reading::text::read_text;
 use token::layout::RECORD_WIDTH;
 use token::place::Place;
-use utf8::check::Verdict;
-use utf8::check::check;
 
 // What listing a text answers.
 pub enum Listed {
@@ -129,12 +128,10 @@ fn lines_size(text: &[u8]) -> usize
 fn listing_size(text: &[u8]) -> usize
     ensures { λ r. ⌜ r ≡ linesSize (now (text .entry)) ⌝ }
 {
-    if text.len() > message_limit() {
-        return 0;
-    }
-    match check(text) {
-        Verdict::WellFormed => lines_size(text),
-        Verdict::IllFormed(_) => 0,
+    match judge(text) {
+        Judged::Fit => lines_size(text),
+        Judged::TooLong => 0,
+        Judged::NotUtf8(_) => 0,
     }
 }
 

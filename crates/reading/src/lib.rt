@@ -1,5 +1,5 @@
 // The public calls on a text: the whole reading, one token from a place, and the place of an offset.
-mod judge;
+pub mod judge;
 pub mod one;
 pub mod place;
 mod put;

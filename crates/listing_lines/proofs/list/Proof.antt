@@ -2,15 +2,21 @@
 use mathlib.Core.Path.{_≡_, refl}
 use mathlib.Core.Bool.{false}
 use mathlib.Core.List.{[], _∷_}
+use Prim.Native.Nat.{_≤_}
 use native.Mathlib.Omega.{arith}
 use lib.Dec.{eqb}
+use lib.ListN.{length}
 use types.Run.{OneOf, miss}
 use denote.Enum.Declared.{tagOf}
+use Rattle.limits.specs.Limits.{maxBytesLiteralLength}
+use Rattle.lexeme.specs.declared.Mode.the-variants.{Strict}
 use Rattle.reading.specs.Answers.{readTextNumber}
+use Rattle.reading.specs.Calls.{ReadsText}
 use Rattle.reading.specs.declared.text.ReadText.{ReadText}
 use Rattle.reading.proofs.text.ReadText.{the-type}
 use Rattle.reading.specs.declared.text.ReadText.the-variants as text-is
 use Rattle.reading.proofs.Uses.{records-inside}
+use Rattle.listing_lines.specs.Listing.{linesSize}
 use Rattle.listing_lines.proofs.Listings.{rows-are, size-is, tokens-listed, refusal-listed, short-listed}
 use borrow.Author.Needs.{needs}
 use Rattle.listing_lines.proofs.list.Statement.{statement}
@@ -40,14 +46,27 @@ read-text-requires c κs = search needs
 enum-known-answer : tie.Need-enum-known-answer
 enum-known-answer c = search needs
 
+-- where the function begins, seen from the reading
+abbrev entry : tie.After-read-text → tie.Start
+entry r = r .before .before .before .before .before .before .before .before .before .before
+
+-- the reading, with the default limit
+reading : (r : tie.After-read-text)
+    → ReadsText Strict maxBytesLiteralLength (entry r .args .text .now) (entry r .args .tokens .now) (entry r .args .strings .now)
+    (entry r .args .reports .now) (r .read-text .result) (r .read-text .last .1 .1 .1 .0) (r .read-text .last .1 .1 .1 .1 .0)
+    (r .read-text .last .1 .1 .1 .1 .1 .0)
+reading r = rw (r .before .before .before .before .default-bytes-limit .ensures) at (r .read-text .ensures)
+
+-- the lines fit the out buffer
+room : (r : tie.After-read-text) → linesSize (entry r .args .text .now) ≤ length (entry r .args .out .now)
+room r = let i = r .before .before .before .before .before in rw (i .before .listing-size .ensures) at (i .if1 .left)
+
 put-lines-requires : tie.Need-put-lines-requires
 put-lines-requires c κs =
     let m = c .before .before .before in
     let r = m .before .before .before .before .before .before in
-    let i = r .before .before .before .before .before in
-    let w = rw (r .before .before .before .before .default-bytes-limit .ensures) at (r .read-text .ensures) in
     let e = m .answer .given .1 in
-    (records-inside w e, rw (rows-are w e) (omega (arith, size-is w e, i .before .listing-size .ensures, i .if1 .left)))
+    (records-inside (reading r) e, rw (rows-are (reading r) e) (omega (arith, size-is (reading r) e, room r)))
 
 number-requires : tie.Need-number-requires
 number-requires c κs = search needs
@@ -71,10 +90,8 @@ returns-2 : tie.Need-returns-2
 returns-2 c =
     let m = c .before .before .before .before .before .before in
     let r = m .before .before .before .before .before .before in
-    let i = r .before .before .before .before .before in
-    let w = rw (r .before .before .before .before .default-bytes-limit .ensures) at (r .read-text .ensures) in
-    let h = rw (i .before .listing-size .ensures) at (i .if1 .left) in
-    tokens-listed w (m .answer .given .1) (i .before .listing-size .ensures) h (c .before .before .put-lines .ensures)
+    let z = r .before .before .before .before .before .before .listing-size .ensures in
+    tokens-listed (reading r) (m .answer .given .1) z (room r) (c .before .before .put-lines .ensures)
 
 same-length-5 : tie.Need-same-length-5
 same-length-5 c = search needs
@@ -92,11 +109,8 @@ returns-3 : tie.Need-returns-3
 returns-3 c =
     let n = c .before .before .before .before in
     let r = n .before .before .before .before .before .before in
-    let i = r .before .before .before .before .before in
-    let w = rw (r .before .before .before .before .default-bytes-limit .ensures) at (r .read-text .ensures) in
-    let h = rw (i .before .listing-size .ensures) at (i .if1 .left) in
     let z = not-counted (r .read-text .result) (n .before .match .keys2) in
-    refusal-listed w (n .number .result) (n .number .ensures) z h (c .before .before .put-refusal .ensures)
+    refusal-listed (reading r) (n .number .result) (n .number .ensures) z (room r) (c .before .before .put-refusal .ensures)
 
 pub list-spec : {M : Type 1} → statement M
 list-spec =

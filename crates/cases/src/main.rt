@@ -9,6 +9,7 @@ use lexeme::Mode;
 use libc::STDIN_FILENO;
 use libc::STDOUT_FILENO;
 use notation::numbers::put_number;
+use notation::numbers::separator_before;
 use notation::parse;
 use reading::one::ReadToken;
 use reading::one::read_token;
@@ -58,19 +59,14 @@ fn print_number(z: i64, after: u8) {
     io::write_all(STDOUT_FILENO, &out[start..]);
 }
 
-// What stands after a number, where these many of its row are left, with itself.
-fn after(left: usize) -> u8 {
-    if left == 1 { b'\n' } else { b' ' }
-}
-
 // A line: a word, and numbers.
 fn print_row(word: &[u8], row: &[i64]) {
     io::write_all(STDOUT_FILENO, word);
     let mut i = 0;
     while i < row.len() {
         let z = row[i];
-        print_number(z, after(row.len() - i));
         i += 1;
+        print_number(z, separator_before(row.len() - i));
     }
 }
 

@@ -6,33 +6,26 @@ use Prim.Native.Nat.{ℕ, suc, _+_, _-_, _*_, _≤_, _<_}
 use native.Mathlib.Nat.{sub-zero}
 use native.Mathlib.Numerals.{add-one}
 use native.Mathlib.Omega.{arith}
-use lib.Dec.{eqb}
 use lib.IntN.{ℤ, pos}
 use lib.ListN.{length, drop, getD, length-append, length-drop, drop-of-length-le}
 use lib.Seq.{drop-cons, drop-drop}
-use borrow.Author.Tests.{ne-eqb}
-use Rattle.base.specs.Choice.{pick}
-use Rattle.notation.specs.Decimal.{numberText}
+use Rattle.notation.specs.Decimal.{numberText, separator}
 use Rattle.notation.proofs.Digits.{number-most}
 use Rattle.token.specs.Layout.{recordWidth}
 use Rattle.token.specs.declared.layout.Record.{Record}
 use Rattle.reading.specs.Buffers.{recordRows}
-use Rattle.listing_lines.specs.Lines.{separator, lineText, lineNumbers, linesOf, refusedLine}
+use Rattle.listing_lines.specs.Lines.{lineText, lineNumbers, linesOf, refusedLine}
 use Rattle.listing_lines.specs.Rows.{rowNumbers, rowLines}
 
 -- ---- one line
 
-line-more : (z : ℤ) (zs : List ℤ) → lineText (z ∷ zs) ≡ (numberText z ++ (separator zs ∷ [])) ++ lineText zs
+line-more : (z : ℤ) (zs : List ℤ) → lineText (z ∷ zs) ≡ (numberText z ++ (separator (length zs) ∷ [])) ++ lineText zs
 unfolding lineText
-line-more z zs = sym (append-assoc (numberText z) (separator zs ∷ []) (lineText zs))
-
-separator-is : (zs : List ℤ) → separator zs ≡ pick (eqb (length zs) 0) 0x0A 0x20
-separator-is [] = refl
-separator-is (z ∷ zs) = rw (ne-eqb (length (z ∷ zs)) 0 (λ e. omega arith))
+line-more z zs = sym (append-assoc (numberText z) (separator (length zs) ∷ []) (lineText zs))
 
 -- the number at k and what follows it
 abbrev pub numberAt : List ℤ → ℕ → List ℕ
-numberAt row k = numberText (getD row k (pos 0)) ++ (pick (eqb (length row - (k + 1)) 0) 0x0A 0x20 ∷ [])
+numberAt row k = numberText (getD row k (pos 0)) ++ (separator (length row - (k + 1)) ∷ [])
 
 pub number-length : (row : List ℤ) (k : ℕ) → length (numberAt row k) ≡ length (numberText (getD row k (pos 0))) + 1
 number-length row k = length-append (numberText (getD row k (pos 0))) _
@@ -42,7 +35,7 @@ pub line-at : (row : List ℤ) (k : ℕ) → k < length row → lineText (drop k
 line-at row k h =
     let e : k + 1 ≡ suc k = add-one k in
     let d : drop k row ≡ getD row k (pos 0) ∷ drop (k + 1) row = rw e (drop-cons row k (pos 0) h) in
-    rw (d, line-more, separator-is, length-drop)
+    rw (d, line-more, length-drop)
 
 pub line-done : (row : List ℤ) (k : ℕ) → length row ≤ k → lineText (drop k row) ≡ []
 unfolding lineText
@@ -52,7 +45,7 @@ line-done row k h = rw (drop-of-length-le row h)
 pub line-most : (zs : List ℤ) → length (lineText zs) ≤ length zs * 22
 unfolding lineText
 line-most [] = omega arith
-line-most (z ∷ zs) = omega (arith, length-append (numberText z) (separator zs ∷ lineText zs), number-most z, line-most zs)
+line-most (z ∷ zs) = omega (arith, length-append (numberText z) (separator (length zs) ∷ lineText zs), number-most z, line-most zs)
 
 pub refused-length : (n : ℕ) → length (refusedLine n) ≡ 9 + length (numberText (pos n))
 unfolding lineText

@@ -2,6 +2,7 @@
 -- its number. By cases on the answer. Assumes nothing.
 use mathlib.Core.Path.{_≡_, refl, sym, ap, _∙_, subst}
 use mathlib.Core.Bool.{Bool, true, false}
+use mathlib.Core.Logic.{_⊎_, inl, inr, ⊎-elim}
 use mathlib.Core.List.{List, _++_}
 use Prim.Native.Nat.{ℕ, _≤_, _<_}
 use native.Mathlib.Omega.{arith}
@@ -31,6 +32,15 @@ use Rattle.listing_lines.specs.declared.Listed.{Listed}
 use Rattle.listing_lines.specs.declared.Listed.the-variants.{Bytes, OutShort}
 use Rattle.listing_lines.proofs.Fills.{whole-fills, short-out}
 use Rattle.listing_lines.proofs.Lines.{rows-held}
+
+-- an answer accepts, or its number is not 0
+pub answered : (r : ReadText) → ((n : ℕ) × (s : ℕ) × (k : ℕ) × (r ≡ text-is.Counts n s k)) ⊎ (eqb (readTextNumber r) 0 ≡ false)
+answered (text-is.Counts n s k) = inl (n, s, k, refl)
+answered text-is.TooLong = inr refl
+answered (text-is.NotUtf8 n) = inr refl
+answered text-is.TokensShort = inr refl
+answered text-is.StringsShort = inr refl
+answered text-is.ReportsShort = inr refl
 
 module _ {text : List ℕ} {T : List ℤ} {S : List ℕ} {R : List ℤ} {r : ReadText} {T′ : List ℤ} {S′ : List ℕ} {R′ : List ℤ}
     (w : ReadsText Strict maxBytesLiteralLength text T S R r T′ S′ R′) where
@@ -87,23 +97,31 @@ short-listed text T S R O h =
 -- whenever the answer is that the out buffer is short, nothing is written to any buffer
 module _ {text : List ℕ} {T : List ℤ} {S : List ℕ} {R : List ℤ} {O : List ℕ} {r : Listed} {T′ : List ℤ} {S′ : List ℕ} {R′ : List ℤ} {O′ : List ℕ}
     (w : Lists text T S R O r T′ S′ R′ O′) (e : r ≡ OutShort) where
-  -- after a reading the line of its refusal was too long: the tokens' lines have been measured
-  refused : (h : linesSize text ≤ length O) (x : ReadText) → ReadsText Strict maxBytesLiteralLength text T S R x T′ S′ R′ → Fills (listingOf text x) O r O′
+  -- after a reading it was the line of a refusal that was too long: the tokens' lines have been measured before
+  refused : (x : ReadText) → linesSize text ≤ length O → ReadsText Strict maxBytesLiteralLength text T S R x T′ S′ R′ → Fills (listingOf text x) O r O′
       → Untouched T S R O r T′ S′ R′ O′
-  refused h (text-is.Counts n s k) u f =
-      let q : ltb (length O) (length (tokenLines text)) ≡ false = le-ltb _ _ (rw (size-is u refl) at h) in
-      let b = rw q at (f .answer) in
-      let z : _≡_ {A = ℕ} 0 1 = cc in
-      absurd (omega arith)
-  refused h text-is.TooLong u f = record { answer = e; tokens = u .records; strings = u .strings; reports = u .reports; out = short-out f e }
-  refused h (text-is.NotUtf8 n) u f = record { answer = e; tokens = u .records; strings = u .strings; reports = u .reports; out = short-out f e }
-  refused h text-is.TokensShort u f = record { answer = e; tokens = u .records; strings = u .strings; reports = u .reports; out = short-out f e }
-  refused h text-is.StringsShort u f = record { answer = e; tokens = u .records; strings = u .strings; reports = u .reports; out = short-out f e }
-  refused h text-is.ReportsShort u f = record { answer = e; tokens = u .records; strings = u .strings; reports = u .reports; out = short-out f e }
+  refused x h u f = ⊎-elim (λ a. accepted (a .3)) (λ z. kept z) (answered x)
+    where
+      accepted : {n s k : ℕ} → x ≡ text-is.Counts n s k → Untouched T S R O r T′ S′ R′ O′
+      accepted a =
+          let q : ltb (length O) (length (tokenLines text)) ≡ false = le-ltb _ _ (rw (size-is u a) at h) in
+          let b : r ≡ Bytes (length (tokenLines text)) = rw (a, q) at (f .answer) in
+          let z : _≡_ {A = ℕ} 0 1 = cc in
+          absurd (omega arith)
+
+      kept : eqb (readTextNumber x) 0 ≡ false → Untouched T S R O r T′ S′ R′ O′
+      kept z =
+          record {
+            answer = e;
+            tokens = rw z at (u .records);
+            strings = rw z at (u .strings);
+            reports = rw z at (u .reports);
+            out = short-out f e;
+          }
 
   pub nothing-written : Untouched T S R O r T′ S′ R′ O′
   nothing-written = go (ltb (length O) (linesSize text)) refl
     where
       go : (b : Bool) → ltb (length O) (linesSize text) ≡ b → Untouched T S R O r T′ S′ R′ O′
       go true q = w .short (ltb-true _ _ q)
-      go false q = let h = ltb-false _ _ q in let f = w .enough h in refused h _ (f .reads) (f .fills)
+      go false q = let h = ltb-false _ _ q in let f = w .enough h in refused _ h (f .reads) (f .fills)

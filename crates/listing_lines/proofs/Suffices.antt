@@ -72,9 +72,9 @@ module _ (text : List ℕ) (h : length text ≤ 8192) where
   unfolding recordsOf linesOf
   none-fit p = omega arith
 
-  tokens-listed : length (tokenLines text) ≤ 8193 * 48
+  lines-most : length (tokenLines text) ≤ 8193 * 48
   unfolding tokens
-  tokens-listed =
+  lines-most =
       let w =
       by-tokens Strict maxBytesLiteralLength text (λ at ts. (p : ℕ) → length (linesOf (recordsOf p ts)) ≤ length ts * 48)
       (λ at k e. lines-fit at (nextToken Strict maxBytesLiteralLength text at) [] (reads Strict maxBytesLiteralLength text at k)
@@ -116,7 +116,7 @@ module _ (text : List ℕ) (nt ns nr no : ℕ) (h : Suffice (length text) nt ns 
   lines-fit-out = rw (le-ltb maxMessageSize (length text) (omega (arith, h .text))) (go (checkOf text))
     where
       go : (v : Verdict) → afterCheck v (λ n. 0) (length (tokenLines text)) ≤ no
-      go WellFormed = omega (arith, tokens-listed text (h .text), h .out)
+      go WellFormed = omega (arith, lines-most text (h .text), h .out)
       go (IllFormed n) = omega arith
 
   -- and it holds what is printed
@@ -125,7 +125,7 @@ module _ (text : List ℕ) (nt ns nr no : ℕ) (h : Suffice (length text) nt ns 
   printed-fits = go (checkOf text)
     where
       go : (v : Verdict) → length (afterCheck v (λ n. refusedLine 2) (tokenLines text)) ≤ no
-      go WellFormed = omega (arith, tokens-listed text (h .text), h .out)
+      go WellFormed = omega (arith, lines-most text (h .text), h .out)
       go (IllFormed n) = omega (arith, refused-length 2, number-most (pos 2), h .out)
 
 -- where the buffers suffice, the listing is what is printed, and no buffer is short
@@ -139,14 +139,14 @@ module _ {text : List ℕ} {T : List ℤ} {S : List ℕ} {R : List ℤ} {O : Lis
       subst (λ (l : List ℕ). Fills l O r O′) (printed-is text (length T) (length S) (length R) (length O) h)
       (w .enough (omega (arith, lines-fit-out text (length T) (length S) (length R) (length O) h)) .fills)
 
-  counted : r ≡ Bytes (length (printed text))
-  counted = rw (le-ltb _ _ fits) at (filled .answer)
+  bytes-listed : r ≡ Bytes (length (printed text))
+  bytes-listed = rw (le-ltb _ _ fits) at (filled .answer)
 
   pub prints : {n : ℕ} → r ≡ Bytes n → Prints text O n O′
   prints {n} e =
-      let q : n ≡ length (printed text) = cc counted in
+      let q : n ≡ length (printed text) = cc bytes-listed in
       let o : O′ ≡ overlay (printed text) O = rw (le-ltb _ _ fits) at (filled .out) in
       record { count = q; inside = omega (arith, ap length o, length-append (printed text) (drop (length (printed text)) O)); out = o }
 
   pub never-short : r ≡ OutShort → ⊥
-  never-short e = let z : _≡_ {A = ℕ} 0 1 = cc counted in omega arith
+  never-short e = let z : _≡_ {A = ℕ} 0 1 = cc bytes-listed in omega arith

@@ -2,18 +2,14 @@
 use mathlib.Core.List.{List, [], _∷_, _++_}
 use Prim.Native.Nat.{ℕ}
 use lib.IntN.{ℤ, pos}
-use Rattle.notation.specs.Decimal.{numberText}
+use lib.ListN.{length}
+use Rattle.notation.specs.Decimal.{numberText, separator}
 use Rattle.token.specs.declared.layout.Record.{Record}
-
--- what follows a number of a line, these others being after it: a newline where there is none, else a blank
-abbrev pub separator : List ℤ → ℕ
-separator [] = 0x0A
-separator (z ∷ zs) = 0x20
 
 -- numbers in decimal as one line
 unfoldable pub lineText : List ℤ → List ℕ
 lineText [] = []
-lineText (z ∷ zs) = numberText z ++ (separator zs ∷ lineText zs)
+lineText (z ∷ zs) = numberText z ++ (separator (length zs) ∷ lineText zs)
 
 -- "It prints start, end, line, column, kind, reason, nanoseconds"
 abbrev pub lineNumbers : Record → List ℤ

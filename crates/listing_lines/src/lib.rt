@@ -1,10 +1,8 @@
 // The listing of a text, written to a lent buffer: one token a line, or `refused` and the number.
 ghost use mathlib.Core.Path.{_≡_};
 ghost use Prim.Native.Nat.{_+_, _*_, _≤_};
-ghost use lib.Dec.{eqb};
 ghost use lib.ListN.{length, drop};
 ghost use lib.Seq.{sets};
-ghost use Rattle.base.specs.Choice.{pick};
 ghost use Rattle.limits.specs.Limits.{maxMessageSize};
 ghost use Rattle.token.specs.Layout.{recordWidth, RecordFits};
 ghost use Rattle.utf8.specs.Grammar.{Octets};
@@ -17,6 +15,7 @@ use lexer::next::Token;
 use lexer::next::next_token;
 use limits::default_bytes_limit;
 use notation::numbers::number_size;
+use notation::numbers::separator_before;
 use notation::numbers::write_number;
 use reading::judge::Judged;
 use reading::judge::judge;
@@ -61,13 +60,6 @@ fn line_size(row: &[i64]) -> usize
         k += 1;
     }
     size
-}
-
-// What follows a number of a line that has so many others after it.
-fn separator_before(others: usize) -> u8
-    ensures { λ r. ⌜ r ≡ pick (eqb others 0) 0x0A 0x20 ⌝ }
-{
-    if others == 0 { b'\n' } else { b' ' }
 }
 
 // Writes the line of these numbers from `at` on, and gives where it ends.

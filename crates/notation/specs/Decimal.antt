@@ -21,6 +21,10 @@ abbrev pub numberText : ℤ → List ℕ
 numberText (pos n) = decimal n
 numberText (negsuc n) = 45 ∷ decimal (suc n)
 
+-- what follows a number of a line that has so many others after it: a newline where there is none, else a blank
+abbrev pub separator : ℕ → ℕ
+separator others = pick (eqb others 0) 0x0A 0x20
+
 -- what stands in 22 bytes from r on: a text, and after it the last byte as it was
 pub record EndsWith (text out out′ : List ℕ) (r : ℕ) : Type 0 where
   pub kept : length out′ ≡ 22

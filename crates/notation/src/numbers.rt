@@ -5,7 +5,7 @@ ghost use Prim.Native.Nat.{_+_, _≤_};
 ghost use lib.IntN.{natAbs};
 ghost use lib.ListN.{length};
 ghost use lib.Seq.{sets};
-ghost use Rattle.notation.specs.Decimal.{decimal, numberText, EndsWith};
+ghost use Rattle.notation.specs.Decimal.{decimal, numberText, separator, EndsWith};
 
 // Writes a number in decimal so that it ends before the last of 22 bytes, and gives where it starts. Twenty digits hold any.
 fn put_digits(out: &mut [u8], n: u64) -> usize
@@ -48,6 +48,13 @@ pub fn put_number(out: &mut [u8], z: i64) -> usize
         return sign;
     }
     start
+}
+
+// What follows a number of a line that has so many others after it.
+pub fn separator_before(others: usize) -> u8
+    ensures { λ r. ⌜ r ≡ separator others ⌝ }
+{
+    if others == 0 { b'\n' } else { b' ' }
 }
 
 // How many bytes a number is written in.

@@ -23,17 +23,17 @@ mul-z c = search needs
 shared-slice-copy-out-z : tie.Need-shared-slice-copy-out-z Inv-loop μ-loop
 shared-slice-copy-out-z c = search needs
 
-sub-after : tie.Need-sub-after Inv-loop μ-loop
-sub-after c = search needs
+add-i : tie.Need-add-i Inv-loop μ-loop
+add-i c = search needs
 
-after-requires : tie.Need-after-requires Inv-loop μ-loop
-after-requires c κs = search needs
+sub-separator-before : tie.Need-sub-separator-before Inv-loop μ-loop
+sub-separator-before c = search needs
+
+separator-before-requires : tie.Need-separator-before-requires Inv-loop μ-loop
+separator-before-requires c κs = search needs
 
 print-number-requires : tie.Need-print-number-requires Inv-loop μ-loop
 print-number-requires c κs = search needs
-
-add-i : tie.Need-add-i Inv-loop μ-loop
-add-i c = search needs
 
 loop-less : tie.Need-loop-less Inv-loop μ-loop
 loop-less c = search needs
@@ -54,10 +54,10 @@ print-row-spec =
     loop-holds
     mul-z
     shared-slice-copy-out-z
-    sub-after
-    after-requires
-    print-number-requires
     add-i
+    sub-separator-before
+    separator-before-requires
+    print-number-requires
     loop-less
     loop-again
     returns)

@@ -1,6 +1,7 @@
 -- `list` measures the lines, then reads, and writes the lines of what it has read, or the refusal's. Assumes nothing.
-use mathlib.Core.Path.{_≡_, refl}
+use mathlib.Core.Path.{_≡_}
 use mathlib.Core.Bool.{false}
+use mathlib.Core.Logic.{⊎-elim}
 use mathlib.Core.List.{[], _∷_}
 use Prim.Native.Nat.{_≤_}
 use native.Mathlib.Omega.{arith}
@@ -14,22 +15,16 @@ use Rattle.reading.specs.Answers.{readTextNumber}
 use Rattle.reading.specs.Calls.{ReadsText}
 use Rattle.reading.specs.declared.text.ReadText.{ReadText}
 use Rattle.reading.proofs.text.ReadText.{the-type}
-use Rattle.reading.specs.declared.text.ReadText.the-variants as text-is
 use Rattle.reading.proofs.Uses.{records-inside}
 use Rattle.listing_lines.specs.Listing.{linesSize}
-use Rattle.listing_lines.proofs.Listings.{rows-are, size-is, tokens-listed, refusal-listed, short-listed}
+use Rattle.listing_lines.proofs.Listings.{answered, rows-are, size-is, tokens-listed, refusal-listed, short-listed}
 use borrow.Author.Needs.{needs}
 use Rattle.listing_lines.proofs.list.Statement.{statement}
 use Rattle.listing_lines.proofs.list.Tie as tie
 
 -- no other answer than the first has the number 0
 not-counted : (r : ReadText) → OneOf (1 ∷ 2 ∷ 3 ∷ 4 ∷ 5 ∷ []) (tagOf the-type r) → eqb (readTextNumber r) 0 ≡ false
-not-counted (text-is.Counts n s k) h = absurd (miss (1 ∷ 2 ∷ 3 ∷ 4 ∷ 5 ∷ []) 0 tt h)
-not-counted text-is.TooLong h = refl
-not-counted (text-is.NotUtf8 n) h = refl
-not-counted text-is.TokensShort h = refl
-not-counted text-is.StringsShort h = refl
-not-counted text-is.ReportsShort h = refl
+not-counted r h = ⊎-elim (λ a. absurd (miss (1 ∷ 2 ∷ 3 ∷ 4 ∷ 5 ∷ []) 0 tt (rw (a .3) at h))) (λ z. z) (answered r)
 
 listing-size-requires : tie.Need-listing-size-requires
 listing-size-requires c κs = search needs

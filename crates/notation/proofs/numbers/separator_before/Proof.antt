@@ -1,7 +1,7 @@
 -- `separator_before` tells by the count, as its definition does. Assumes nothing.
 use borrow.Author.Tests.{eq-eqb, ne-eqb}
-use Rattle.listing_lines.proofs.separator_before.Statement.{statement}
-use Rattle.listing_lines.proofs.separator_before.Tie as tie
+use Rattle.notation.proofs.numbers.separator_before.Statement.{statement}
+use Rattle.notation.proofs.numbers.separator_before.Tie as tie
 
 returns : tie.Need-returns
 returns c = rw (eq-eqb _ _ (c .if1 .taken))

@@ -1,3 +1,4 @@
 pub mod Answers
+pub mod Interface
 pub mod Texts
 pub mod TokenFiles

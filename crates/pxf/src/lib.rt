@@ -1,6 +1,7 @@
 // The C interface of the token reader: each function calls one public call, returns document 01's number of its answer, and sets all six numbers
 // of `answer`.
 mod answer;
+pub mod interface;
 pub mod texts;
 pub mod token_files;
 mod values;

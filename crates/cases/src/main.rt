@@ -1,5 +1,5 @@
 // Answers the questions of the conformance list, which it reads from standard input: it prints each line as it is, and after each `text` what
-// `read_text` or `read_token` answers, in the list's form, and `end`.
+// `read_text`, `read_token` or `place_of` answers, in the list's form, and `end`.
 mod escaped;
 
 ghost use Prim.Native.Nat.{_*_, _≤_};
@@ -13,6 +13,8 @@ use notation::numbers::separator_before;
 use notation::parse;
 use reading::one::ReadToken;
 use reading::one::read_token;
+use reading::place::PlaceOf;
+use reading::place::place_of;
 use reading::text::ReadText;
 use reading::text::read_text;
 use token::layout::RECORD_WIDTH;
@@ -26,12 +28,18 @@ const STRINGS: usize = 512;
 
 const REPORTS: usize = 2560;
 
-// How a text is read: whole, or one token from a place; and how long the buffers are.
+// What is asked of a text: its whole reading, the token after a place, or the place of an offset.
+enum Asked {
+    Whole,
+    OneToken(Place),
+    PlaceOf(usize),
+}
+
+// How a text is read, what is asked of it, and how long the buffers are.
 struct How {
     mode: Mode,
     limit: usize,
-    whole: bool,
-    place: Place,
+    asked: Asked,
     tokens: usize,
     strings: usize,
     reports: usize,
@@ -44,8 +52,7 @@ fn plainly() -> How
     How {
         mode: Mode::Strict,
         limit: 0,
-        whole: true,
-        place: Place::first(),
+        asked: Asked::Whole,
         tokens: TOKENS,
         strings: STRINGS,
         reports: REPORTS,
@@ -118,9 +125,15 @@ fn print_place(place: Place) {
 }
 
 // Reads a whole text and prints what it gives.
-fn answer_text(text: &[u8], how: How, tokens: &mut [i64], strings: &mut [u8], reports: &mut [i64]) {
-    let mode = how.mode;
-    let answer = read_text(text, mode, how.limit, tokens, strings, reports);
+fn answer_text(
+    text: &[u8],
+    mode: Mode,
+    limit: usize,
+    tokens: &mut [i64],
+    strings: &mut [u8],
+    reports: &mut [i64],
+) {
+    let answer = read_text(text, mode, limit, tokens, strings, reports);
     match answer {
         ReadText::Counts {
             tokens: n,
@@ -135,14 +148,14 @@ fn answer_text(text: &[u8], how: How, tokens: &mut [i64], strings: &mut [u8], re
 // Reads one token and prints what it gives.
 fn answer_token(
     text: &[u8],
-    how: How,
+    place: Place,
+    mode: Mode,
+    limit: usize,
     tokens: &mut [i64],
     strings: &mut [u8],
     reports: &mut [i64],
 ) {
-    let mode = how.mode;
-    let place = how.place;
-    let answer = read_token(text, place, mode, how.limit, tokens, strings, reports);
+    let answer = read_token(text, place, mode, limit, tokens, strings, reports);
     match answer {
         ReadToken::One {
             strings: m,
@@ -157,6 +170,16 @@ fn answer_token(
     }
 }
 
+// Prints the place of an offset.
+fn answer_place(text: &[u8], offset: usize) {
+    let answer = place_of(text, offset);
+    match answer {
+        PlaceOf::At(place) => print_place(place),
+        PlaceOf::NotUtf8(at) => print_refusal(answer.number(), at),
+        _ => print_refusal(answer.number(), 0),
+    }
+}
+
 // Lends buffers of the lengths asked for.
 fn answer(text: &[u8], how: How)
     requires { ⌜ Roomy how ⌝ }
@@ -164,26 +187,32 @@ fn answer(text: &[u8], how: How)
     let mut tokens = [0i64; TOKENS];
     let mut strings = [0u8; STRINGS];
     let mut reports = [0i64; REPORTS];
+    let mode = how.mode;
+    let limit = how.limit;
     let t = how.tokens;
     let s = how.strings;
     let r = how.reports;
-    if how.whole {
-        answer_text(
+    let asked = how.asked;
+    match asked {
+        Asked::Whole => answer_text(
             text,
-            how,
+            mode,
+            limit,
             &mut tokens[..t],
             &mut strings[..s],
             &mut reports[..r],
-        );
-        return;
+        ),
+        Asked::OneToken(place) => answer_token(
+            text,
+            place,
+            mode,
+            limit,
+            &mut tokens[..t],
+            &mut strings[..s],
+            &mut reports[..r],
+        ),
+        Asked::PlaceOf(offset) => answer_place(text, offset),
     }
-    answer_token(
-        text,
-        how,
-        &mut tokens[..t],
-        &mut strings[..s],
-        &mut reports[..r],
-    );
 }
 
 fn answer_line(line: &[u8], how: How)
@@ -213,6 +242,22 @@ fn three_of(line: &[u8]) -> Three {
     }
 }
 
+// The same but for what is asked.
+fn asking(asked: Asked, how: How) -> How
+    requires { ⌜ Roomy how ⌝ }
+    ensures { λ r. ⌜ Roomy r ⌝ }
+{
+    let mode = how.mode;
+    How {
+        mode,
+        limit: how.limit,
+        asked,
+        tokens: how.tokens,
+        strings: how.strings,
+        reports: how.reports,
+    }
+}
+
 fn from_place(line: &[u8], how: How) -> How
     requires { ⌜ Roomy how ⌝ }
     ensures { λ r. ⌜ Roomy r ⌝ }
@@ -223,10 +268,14 @@ fn from_place(line: &[u8], how: How) -> How
         line: n.b as usize,
         column: n.c as usize,
     };
-    let mut next = how;
-    next.whole = false;
-    next.place = place;
-    next
+    asking(Asked::OneToken(place), how)
+}
+
+fn at_offset(line: &[u8], how: How) -> How
+    requires { ⌜ Roomy how ⌝ }
+    ensures { λ r. ⌜ Roomy r ⌝ }
+{
+    asking(Asked::PlaceOf(parse::digits(line) as usize), how)
 }
 
 fn with_room(line: &[u8], how: How) -> How
@@ -253,13 +302,12 @@ fn with_mode(line: &[u8], how: How) -> How
     requires { ⌜ Roomy how ⌝ }
     ensures { λ r. ⌜ Roomy r ⌝ }
 {
-    let place = how.place;
     let mode = mode_of(line);
+    let asked = how.asked;
     How {
         mode,
         limit: how.limit,
-        whole: how.whole,
-        place,
+        asked,
         tokens: how.tokens,
         strings: how.strings,
         reports: how.reports,
@@ -276,6 +324,7 @@ fn after_line(line: &[u8], how: How) -> How
         b'm' => with_mode(line, how),
         b'l' => with_limit(line, how),
         b'f' => from_place(line, how),
+        b'a' => at_offset(line, how),
         b'r' => with_room(line, how),
         _ => how,
     }
@@ -310,7 +359,7 @@ fn replay(s: &[u8]) {
 }
 
 fn main() {
-    let mut questions = [0u8; 262144];
+    let mut questions = [0u8; 524288];
     let n = io::read_full(STDIN_FILENO, &mut questions);
     replay(&questions[..n]);
 }

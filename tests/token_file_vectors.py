@@ -192,6 +192,70 @@ for place in range(len(whole)):
         data[place] ^= 1 << bit
         read_case(bytes(data), 36)
 
+
+def all_refused(number, first):
+    """Whether each answer from this one on has this number, though its call has faults that are looked for later."""
+    return all(answer.split(" ")[0] == str(number) for answer in answers[first:])
+
+
+# the reader's order is 7, 8, 4: rows that break a rule, with a slice that is too short as well
+bad_rows = [
+    middle[:2],
+    empty + empty,
+    [(26, 0, 0, 2, 1, 1)] + middle[1:],
+    [(4, 1, 0, 2, 1, 1)] + middle[1:],
+    [(1, 19, 0, 2, 1, 1)] + middle[1:],
+    [(4, 0, 2, 2, 1, 1)] + middle[1:],
+    [(4, 0, 0, 3, 1, 1)] + middle[1:],
+    [(4, 0, 0, 2, 0, 1)] + middle[1:],
+    [(4, 0, 0, 2, 1, 0)] + middle[1:],
+    middle[:2] + [(0, 0, 3, 67108865, 1, 4)],
+    middle[:2] + [(0, 0, 67108865, 67108865, 1, 4)],
+]
+first = len(answers)
+for rows in bad_rows:
+    for room in (0, 11, 12 * len(rows) - 1):
+        read_case(packed(rows), room)
+read_case(packed([]), 0)
+assert all_refused(8, first)
+
+# no token file either, and no rows at all
+first = len(answers)
+for rows in bad_rows[:4]:
+    for data in (packed(rows, mark=b"OFU"), packed(rows, version=2), packed(rows, count=len(rows) + 1), packed(rows) + b"\0", packed(rows)[:-1]):
+        for room in (0, 12 * len(rows) - 1):
+            read_case(data, room)
+for data in (packed([], mark=b"OFU"), packed([], version=2), packed([], count=1), packed([]) + b"\0"):
+    read_case(data, 0)
+assert all_refused(7, first)
+
+# the writer's order is 8, 9, 10: rows that break a rule, with no room and with a long column before the fault or after it
+first = len(answers)
+for rows in bad_rows:
+    write_case(flat(rows), len(rows), 0)
+for which, column in ((0, 65536), (2, 65536), (2, 67108865)):
+    for place, number in ((0, 26), (1, 1), (3, 3), (4, 2), (5, 0), (6, 0)):
+        numbers = flat(middle)
+        numbers[12 * which + 6] = column
+        numbers[12 + place] = number
+        for room in (0, 57):
+            write_case(numbers, 3, room)
+for room in (0, 57):
+    write_case(flat([(4, 0, 0, 2, 1, 65536)] + middle[1:])[:-1], 3, room)
+write_case([], 0, 0)
+write_case(flat(empty), 0, 0)
+assert all_refused(8, first)
+
+# a long column at each record, with room one short and none; with room to the byte it is among those above
+first = len(answers)
+for which in (0, 1, 2):
+    for column in (65536, 67108865):
+        numbers = flat(middle)
+        numbers[12 * which + 6] = column
+        for room in (56, 0):
+            write_case(numbers, 3, room)
+assert all_refused(9, first)
+
 # random rows and files, from a fixed start
 rng = random.Random(1951)
 for _ in range(20):

@@ -1,6 +1,6 @@
 //! The conformance list: texts with what document 01 expects of their whole
-//! reading, or of one token from a place, taken from the Rust, for whoever
-//! builds another reader.
+//! reading, of one token from a place, or of the place of an offset, taken
+//! from the Rust, for whoever builds another reader.
 //!
 //! Of the refusals of a text, 2 to 6 are in it. Number 1 is not: the smallest
 //! text that it refuses has 67,108,865 bytes, and `compare` tries that one.
@@ -19,7 +19,7 @@ use crate::records::{Lent, Mode, Reading, Refusal, FIRST};
 use crate::token::Position;
 
 /// How many cases there are.
-pub const COUNT: usize = 2_360;
+pub const COUNT: usize = 3_203;
 /// No text is longer, in bytes.
 pub const LONGEST_TEXT: usize = 400;
 /// No buffer is longer where its length is stated: the program that replays
@@ -37,10 +37,29 @@ pub struct Case {
     pub text: Vec<u8>,
     pub mode: Mode,
     pub limit: u64,
-    /// One token is asked for, from this place; without it, all of them are.
-    pub from: Option<Position>,
+    pub asked: Asked,
     /// The lengths of the buffers; without it, they are long enough.
     pub room: Option<Lent>,
+}
+
+/// Which call is made on the text.
+#[derive(Debug, Clone, Copy, PartialEq, Eq)]
+pub enum Asked {
+    /// The whole reading.
+    Whole,
+    /// One token, from this place.
+    OneToken(Position),
+    /// The place of this offset.
+    PlaceOf(usize),
+}
+
+/// What an accepted case gives.
+#[derive(Debug, PartialEq, Eq)]
+pub struct Answer {
+    /// Where tokens are asked for: what is written.
+    pub reading: Option<Reading>,
+    /// The place at the one token's end, or of the offset.
+    pub place: Option<Position>,
 }
 
 /// The whole list, as it is stored.
@@ -56,19 +75,25 @@ pub fn questions() -> String {
 
 /// The same at each call: first those written by hand, then those that try
 /// a rule with one thing after the other, then those that ask for one token or
-/// lend short buffers, then grown texts.
+/// a place or lend short buffers, then grown texts.
 pub fn cases() -> Vec<Case> {
     let mut list = List(Vec::new());
     list.miniature();
     list.written();
     list.bytes_limits();
     list.characters();
+    list.name_bytes();
+    list.utf8_leads();
     list.escapes();
+    list.hex_digits();
     list.indents();
     list.durations();
+    list.duration_formula();
+    list.duration_letters();
     list.one_token();
     list.refused_texts();
     list.refused_places();
+    list.places_of();
     list.rooms();
     list.order_of_checks();
     list.grown();
@@ -88,20 +113,24 @@ impl List {
         }
     }
 
-    /// One token from a place, or buffers of stated lengths, or both.
+    /// One token, or buffers of stated lengths, or both; or a place.
     fn add_call(
         &mut self,
         name: String,
         text: &[u8],
         mode: Mode,
-        from: Option<Position>,
+        asked: Asked,
         room: Option<Lent>,
     ) {
         self.0.push(Case {
-            from,
+            asked,
             room,
             ..whole_reading(name, text, mode, DEFAULT_LIMIT)
         });
+    }
+
+    fn add_place_of(&mut self, name: String, text: &[u8], offset: usize) {
+        self.add_call(name, text, Mode::Strict, Asked::PlaceOf(offset), None);
     }
 
     fn miniature(&mut self) {
@@ -150,11 +179,69 @@ impl List {
         }
     }
 
+    /// Each ASCII character inside a name, with `@` and without; and each of
+    /// those that a name has, alone after `@`.
+    fn name_bytes(&mut self) {
+        for byte in 0..=127 {
+            let name = format!("name-byte-{byte:02x}-inside");
+            self.add(name, &[b'q', byte, b'q'], Mode::Strict, DEFAULT_LIMIT);
+            let name = format!("directive-byte-{byte:02x}-inside");
+            self.add(name, &[b'@', b'q', byte, b'q'], Mode::Strict, DEFAULT_LIMIT);
+            if byte.is_ascii_alphanumeric() || b"_.".contains(&byte) {
+                let name = format!("directive-byte-{byte:02x}-alone");
+                self.add(name, &[b'@', byte], Mode::Strict, DEFAULT_LIMIT);
+            }
+        }
+    }
+
+    /// Each lead byte there is, with the least and the greatest second byte
+    /// that it allows, and with those beside them.
+    fn utf8_leads(&mut self) {
+        for lead in 0xC2..=0xF4 {
+            let (least, greatest) = second_bytes(lead);
+            let rest = match lead {
+                ..0xE0 => 0,
+                0xE0..0xF0 => 1,
+                0xF0.. => 2,
+            };
+            let sequence = |second, last| [vec![lead, second], vec![last; rest]].concat();
+            let bounds = [sequence(least, 0x80), sequence(greatest, 0xBF)].concat();
+            for (variant, text) in [
+                ("bounds", bounds),
+                ("second-below", sequence(least - 1, 0x80)),
+                ("second-above", sequence(greatest + 1, 0xBF)),
+            ] {
+                let name = format!("utf8-lead-{lead:02x}-{variant}");
+                self.add(name, &text, Mode::Strict, DEFAULT_LIMIT);
+            }
+        }
+    }
+
     /// Each printable ASCII character after a backslash.
     fn escapes(&mut self) {
         for byte in b' '..=b'~' {
             let text = [b"\"\\", &[byte][..], b"00041x\""].concat();
             self.add_both(format!("escape-{byte:02x}"), &text, DEFAULT_LIMIT);
+        }
+    }
+
+    /// Each hexadecimal digit, and those beside them, in the escapes that take
+    /// such digits. The digits give the same in both modes, the others do not.
+    fn hex_digits(&mut self) {
+        for byte in *b"0123456789ABCDEFabcdef/:@G`g" {
+            let c = char::from(byte);
+            for (variant, text) in [
+                ("x-first", format!(r#""\x{c}1""#)),
+                ("x-second", format!(r#""\x4{c}""#)),
+                ("u-second", format!(r#""\u0{c}41""#)),
+                ("capital-u-fifth", format!(r#""\U0000{c}041""#)),
+            ] {
+                let name = format!("hex-digit-{variant}-{byte:02x}");
+                match c.is_ascii_hexdigit() {
+                    true => self.add(name, text.as_bytes(), Mode::Strict, DEFAULT_LIMIT),
+                    false => self.add_both(name, text.as_bytes(), DEFAULT_LIMIT),
+                }
+            }
         }
     }
 
@@ -198,13 +285,33 @@ impl List {
         }
     }
 
+    fn duration_formula(&mut self) {
+        for (variant, text) in table::DURATION_FORMULA {
+            let name = format!("duration-formula-{variant}");
+            self.add(name, text.as_bytes(), Mode::Strict, DEFAULT_LIMIT);
+        }
+    }
+
+    /// Each letter that may go on with a run, after a unit and as one.
+    fn duration_letters(&mut self) {
+        for letter in 'a'..='z' {
+            for (variant, text) in [
+                ("after-unit", format!("5s{letter}")),
+                ("as-later-unit", format!("2m5{letter}")),
+            ] {
+                let name = format!("duration-letter-{letter}-{variant}");
+                self.add(name, text.as_bytes(), Mode::Strict, DEFAULT_LIMIT);
+            }
+        }
+    }
+
     /// One token from each offset; those inside a character are refused.
     fn one_token(&mut self) {
         for (variant, text) in table::ONE_TOKEN {
             for place in places(text.as_bytes()) {
                 for mode in [Mode::Strict, Mode::Tolerant] {
                     let name = format!("one-token-{variant}-at-{}", place.offset);
-                    self.add_call(name, text.as_bytes(), mode, Some(place), None);
+                    self.add_call(name, text.as_bytes(), mode, Asked::OneToken(place), None);
                 }
             }
         }
@@ -215,15 +322,38 @@ impl List {
         for (variant, text, offset) in table::NO_TEXT {
             let place = places(text)[*offset];
             let name = format!("refused-2-{variant}");
-            self.add_call(name, text, Mode::Strict, Some(place), None);
+            self.add_call(name, text, Mode::Strict, Asked::OneToken(place), None);
         }
     }
 
     fn refused_places(&mut self) {
         for (variant, text, [offset, line, column]) in table::UNTRUE {
-            let place = Position::with_offset(*line, *column, *offset);
+            let asked = Asked::OneToken(Position::with_offset(*line, *column, *offset));
             let name = format!("refused-3-{variant}");
-            self.add_call(name, text.as_bytes(), Mode::Strict, Some(place), None);
+            self.add_call(name, text.as_bytes(), Mode::Strict, asked, None);
+        }
+    }
+
+    /// The place of each offset; then of offsets that have none, and in bytes
+    /// that are no text.
+    fn places_of(&mut self) {
+        for (variant, text) in table::PLACES_OF {
+            for offset in 0..=text.len() {
+                let group = match text.is_char_boundary(offset) {
+                    true => "place-of",
+                    false => "refused-3-place-of",
+                };
+                let name = format!("{group}-{variant}-at-{offset}");
+                self.add_place_of(name, text.as_bytes(), offset);
+            }
+        }
+        for (variant, text, offset) in table::NO_PLACE {
+            let name = format!("refused-3-place-of-{variant}");
+            self.add_place_of(name, text.as_bytes(), *offset);
+        }
+        for (variant, text, offset) in table::NO_TEXT_NO_PLACE {
+            let name = format!("refused-2-place-of-{variant}");
+            self.add_place_of(name, text, *offset);
         }
     }
 
@@ -231,11 +361,13 @@ impl List {
     fn rooms(&mut self) {
         for (variant, text, mode, offset) in table::ROOMS {
             let text = text.as_bytes();
-            let from = offset.map(|offset| place_of(text, offset).expect("a true offset"));
-            let exact = exact(text, *mode, from);
+            let asked = offset.map_or(Asked::Whole, |offset| {
+                Asked::OneToken(place_of(text, offset).expect("a true offset"))
+            });
+            let exact = exact(text, *mode, asked);
             for (group, room) in accepted_rooms(exact).into_iter().chain(short_rooms(exact)) {
                 let name = format!("{group}-{variant}");
-                self.add_call(name, text, *mode, from, Some(room));
+                self.add_call(name, text, *mode, asked, Some(room));
             }
         }
     }
@@ -244,17 +376,25 @@ impl List {
     fn order_of_checks(&mut self) {
         let text: &[u8] = b"\"a\\q\"";
         let no_text: &[u8] = b"\"a\\q\xFF";
-        let untrue = Position::with_offset(1, 2, 0);
-        for (variant, text, from) in [
-            ("2-before-3-one-token", no_text, Some(untrue)),
-            ("2-before-4-whole", no_text, None),
-            ("3-before-4-one-token", text, Some(untrue)),
+        let untrue = Asked::OneToken(Position::with_offset(1, 2, 0));
+        for (variant, text, asked) in [
+            ("2-before-3-one-token", no_text, untrue),
+            ("2-before-4-whole", no_text, Asked::Whole),
+            ("3-before-4-one-token", text, untrue),
         ] {
             let name = format!("order-{variant}");
-            self.add_call(name, text, Mode::Tolerant, from, Some(Lent::NONE));
+            self.add_call(name, text, Mode::Tolerant, asked, Some(Lent::NONE));
         }
-        for (asked, from) in [("one-token", Some(FIRST)), ("whole", None)] {
-            let exact = exact(text, Mode::Tolerant, from);
+        for (variant, text, offset) in [
+            ("place-of", &b"a\xFF"[..], 3),
+            ("place-of-inside-character", b"\xC3\xA9\xFF", 1),
+        ] {
+            let name = format!("order-2-before-3-{variant}");
+            self.add_place_of(name, text, offset);
+        }
+        let first = Asked::OneToken(FIRST);
+        for (word, asked) in [("one-token", first), ("whole", Asked::Whole)] {
+            let exact = exact(text, Mode::Tolerant, asked);
             let (mut no_reports, mut tokens_only) = (exact, Lent::NONE);
             no_reports.reports = 0;
             tokens_only.tokens = exact.tokens;
@@ -263,8 +403,8 @@ impl List {
                 ("5-before-6", tokens_only),
                 ("6-last", no_reports),
             ] {
-                let name = format!("order-{variant}-{asked}");
-                self.add_call(name, text, Mode::Tolerant, from, Some(room));
+                let name = format!("order-{variant}-{word}");
+                self.add_call(name, text, Mode::Tolerant, asked, Some(room));
             }
         }
     }
@@ -292,8 +432,20 @@ fn whole_reading(name: String, text: &[u8], mode: Mode, limit: u64) -> Case {
         text: text.to_vec(),
         mode,
         limit,
-        from: None,
+        asked: Asked::Whole,
         room: None,
+    }
+}
+
+/// The least and the greatest second byte of a character, by RFC 3629: no
+/// overlong forms, no surrogates, nothing above 0x10FFFF.
+fn second_bytes(lead: u8) -> (u8, u8) {
+    match lead {
+        0xE0 => (0xA0, 0xBF),
+        0xED => (0x80, 0x9F),
+        0xF0 => (0x90, 0xBF),
+        0xF4 => (0x80, 0x8F),
+        _ => (0x80, 0xBF),
     }
 }
 
@@ -307,13 +459,13 @@ fn places(text: &[u8]) -> Vec<Position> {
 }
 
 /// The lengths of buffers that hold what is asked for and no more.
-fn exact(text: &[u8], mode: Mode, from: Option<Position>) -> Lent {
+fn exact(text: &[u8], mode: Mode, asked: Asked) -> Lent {
     let case = Case {
-        from,
+        asked,
         ..whole_reading(String::new(), text, mode, DEFAULT_LIMIT)
     };
-    let (reading, _) = case.answer().expect("a text, a true place, ample buffers");
-    reading.exact()
+    let answer = case.answer().expect("a text, a true place, ample buffers");
+    answer.reading.expect("tokens are asked for").exact()
 }
 
 fn accepted_rooms(exact: Lent) -> [(&'static str, Lent); 2] {
@@ -359,17 +511,19 @@ fn place_words(place: Position) -> String {
 }
 
 impl Case {
-    /// The reading, and where one token is asked for, the place at its end.
-    fn answer(&self) -> Result<(Reading, Option<Position>), Refusal> {
+    /// What the Rust gives.
+    pub fn answer(&self) -> Result<Answer, Refusal> {
         let (text, mode, limit) = (&self.text, self.mode, self.limit);
         let lent = self.room.unwrap_or(Lent::AMPLE);
-        match self.from {
-            Some(place) => {
-                let (reading, end) = read_token(text, place, mode, limit, lent)?;
-                Ok((reading, Some(end)))
+        let (reading, place) = match self.asked {
+            Asked::Whole => (Some(read_text(text, mode, limit, lent)?), None),
+            Asked::OneToken(from) => {
+                let (reading, end) = read_token(text, from, mode, limit, lent)?;
+                (Some(reading), Some(end))
             }
-            None => Ok((read_text(text, mode, limit, lent)?, None)),
-        }
+            Asked::PlaceOf(offset) => (None, Some(place_of(text, offset)?)),
+        };
+        Ok(Answer { reading, place })
     }
 }
 
@@ -382,8 +536,10 @@ impl fmt::Display for Question<'_> {
         writeln!(f, "case {}", case.name)?;
         writeln!(f, "mode {}", word(case.mode))?;
         writeln!(f, "limit {}", case.limit)?;
-        if let Some(place) = case.from {
-            writeln!(f, "from {}", place_words(place))?;
+        match case.asked {
+            Asked::Whole => {}
+            Asked::OneToken(from) => writeln!(f, "from {}", place_words(from))?,
+            Asked::PlaceOf(offset) => writeln!(f, "at {offset}")?,
         }
         if let Some(room) = case.room {
             let lengths = [room.tokens, room.strings, room.reports];
@@ -398,15 +554,17 @@ impl fmt::Display for Case {
     fn fmt(&self, f: &mut fmt::Formatter<'_>) -> fmt::Result {
         write!(f, "{}", Question(self))?;
         match self.answer() {
-            Ok((reading, end)) => {
-                for record in &reading.records {
-                    writeln!(f, "token {}", joined(record))?;
+            Ok(Answer { reading, place }) => {
+                if let Some(reading) = reading {
+                    for record in &reading.records {
+                        writeln!(f, "token {}", joined(record))?;
+                    }
+                    writeln!(f, "strings {}", escaped(&reading.strings))?;
+                    for report in &reading.reports {
+                        writeln!(f, "report {}", joined(report))?;
+                    }
                 }
-                writeln!(f, "strings {}", escaped(&reading.strings))?;
-                for report in &reading.reports {
-                    writeln!(f, "report {}", joined(report))?;
-                }
-                if let Some(place) = end {
+                if let Some(place) = place {
                     writeln!(f, "place {}", place_words(place))?;
                 }
             }

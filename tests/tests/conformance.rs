@@ -6,13 +6,11 @@ use std::fmt::Debug;
 use std::iter::Peekable;
 use std::str::{FromStr, Lines};
 
-use oracle::conformance::{cases, list, questions, Case};
+use oracle::cases::DEFAULT_LIMIT;
+use oracle::conformance::{cases, list, questions, Answer, Asked, Case};
 use oracle::conformance::{COUNT, LONGEST_ROOM, LONGEST_TEXT};
-use oracle::records::{read_text, read_token, Lent, Mode, Reading, Refusal};
+use oracle::records::{Lent, Mode, Reading, Refusal};
 use oracle::token::Position;
-
-/// A reading, and after one token the place at its end; or the refusal.
-type Answer = Result<(Reading, Option<Position>), Refusal>;
 
 #[test]
 fn the_list_says_what_the_rust_gives() {
@@ -20,31 +18,33 @@ fn the_list_says_what_the_rust_gives() {
     assert_eq!(cases.len(), COUNT);
     let (mut names, mut kinds) = (BTreeSet::new(), BTreeSet::new());
     let (mut reasons, mut refusals) = (BTreeSet::new(), BTreeSet::new());
-    let (mut accepted_from, mut accepted_room) = (false, false);
+    let (mut accepted_from, mut accepted_at, mut accepted_room) = (false, false, false);
     let mut lines = list.lines().peekable();
     for case in &cases {
-        let asked = head(&mut lines);
-        assert_eq!(&asked, case);
-        let (name, room) = (&asked.name, asked.room.unwrap_or(Lent::NONE));
+        let read = head(&mut lines);
+        assert_eq!(&read, case);
+        let (name, room) = (&read.name, read.room.unwrap_or(Lent::NONE));
         assert!(names.insert(name.clone()), "{name} is there twice");
-        assert!(asked.text.len() <= LONGEST_TEXT, "{name}");
+        assert!(read.text.len() <= LONGEST_TEXT, "{name}");
         assert!(room.tokens <= LONGEST_ROOM.tokens, "{name}");
         assert!(room.strings <= LONGEST_ROOM.strings, "{name}");
         assert!(room.reports <= LONGEST_ROOM.reports, "{name}");
         let stated = body(&mut lines);
-        assert_eq!(stated, given(&asked), "{name}");
+        assert_eq!(stated, read.answer(), "{name}");
         let refused = stated.as_ref().err().map(|refusal| refusal.number);
         assert!(
             promised(name).is_none_or(|number| refused == Some(number)),
             "{name}"
         );
         match stated {
-            Ok((reading, _)) => {
+            Ok(answer) => {
+                let reading = answer.reading.unwrap_or_default();
                 kinds.extend(reading.records.iter().map(|record| record[0]));
                 reasons.extend(reading.records.iter().map(|record| record[1]));
                 reasons.extend(reading.reports.iter().map(|report| report[0]));
-                accepted_from |= asked.from.is_some();
-                accepted_room |= asked.room.is_some();
+                accepted_from |= matches!(read.asked, Asked::OneToken(_));
+                accepted_at |= matches!(read.asked, Asked::PlaceOf(_));
+                accepted_room |= read.room.is_some();
             }
             Err(refusal) => drop(refusals.insert(refusal.number)),
         }
@@ -53,7 +53,17 @@ fn the_list_says_what_the_rust_gives() {
     assert!(kinds.into_iter().eq(0..=25));
     assert!(reasons.into_iter().eq(0..=20));
     assert!(refusals.into_iter().eq(2..=6));
-    assert!(accepted_from && accepted_room);
+    assert!(accepted_from && accepted_at && accepted_room);
+}
+
+/// Every case has a mode and a limit, though a place depends on neither.
+#[test]
+fn a_place_is_asked_for_with_the_usual_mode_and_limit() {
+    let asks_place = |case: &Case| matches!(case.asked, Asked::PlaceOf(_));
+    for case in cases().into_iter().filter(asks_place) {
+        let (name, setting) = (case.name, (case.mode, case.limit, case.room));
+        assert_eq!(setting, (Mode::Strict, DEFAULT_LIMIT, None), "{name}");
+    }
 }
 
 /// A program that is to answer the questions is given no answer to copy.
@@ -91,7 +101,13 @@ fn head(lines: &mut Peekable<Lines>) -> Case {
         other => panic!("{name}: mode {other:?}"),
     };
     let limit = value(lines, "limit ").expect("a limit").parse().unwrap();
-    let from = value(lines, "from ").map(place);
+    let asked = if let Some(words) = value(lines, "from ") {
+        Asked::OneToken(place(words))
+    } else if let Some(word) = value(lines, "at ") {
+        Asked::PlaceOf(word.parse().unwrap())
+    } else {
+        Asked::Whole
+    };
     let room = value(lines, "room ").map(|words| {
         let [tokens, strings, reports] = numbers(words);
         Lent {
@@ -106,7 +122,7 @@ fn head(lines: &mut Peekable<Lines>) -> Case {
         text,
         mode,
         limit,
-        from,
+        asked,
         room,
     }
 }
@@ -118,39 +134,33 @@ fn value<'a>(lines: &mut Peekable<Lines<'a>>, word: &str) -> Option<&'a str> {
 }
 
 /// What is expected of a case, to its end.
-fn body(lines: &mut Peekable<Lines>) -> Answer {
-    let mut reading = Reading::default();
+fn body(lines: &mut Peekable<Lines>) -> Result<Answer, Refusal> {
+    let mut reading: Option<Reading> = None;
     let (mut end, mut refused) = (None, None);
     for line in lines {
         let (word, rest) = line.split_once(' ').unwrap_or((line, ""));
         match word {
-            "token" => reading.records.push(numbers(rest)),
-            "strings" => reading.strings = unescaped(rest),
-            "report" => reading.reports.push(numbers(rest)),
+            "token" => reading.get_or_insert_default().records.push(numbers(rest)),
+            "strings" => reading.get_or_insert_default().strings = unescaped(rest),
+            "report" => reading.get_or_insert_default().reports.push(numbers(rest)),
             "place" => end = Some(place(rest)),
             "refused" => refused = Some(numbers(rest)),
             "end" => break,
             other => panic!("a line with {other}"),
         }
     }
-    refused.map_or(Ok((reading, end)), |[number, offset]| {
-        Err(Refusal {
-            number: number as u8,
-            offset,
-        })
+    let answer = Answer {
+        reading,
+        place: end,
+    };
+    let Some([number, offset]) = refused else {
+        return Ok(answer);
+    };
+    assert!(answer.reading.is_none() && answer.place.is_none());
+    Err(Refusal {
+        number: number as u8,
+        offset,
     })
-}
-
-/// What the Rust gives.
-fn given(asked: &Case) -> Answer {
-    let (text, mode, limit) = (&asked.text, asked.mode, asked.limit);
-    let lent = asked.room.unwrap_or(Lent::AMPLE);
-    match asked.from {
-        Some(place) => {
-            read_token(text, place, mode, limit, lent).map(|(reading, end)| (reading, Some(end)))
-        }
-        None => read_text(text, mode, limit, lent).map(|reading| (reading, None)),
-    }
 }
 
 /// The refusal that a name such as `refused-3-line-zero` speaks of.

@@ -13,7 +13,7 @@ use std::{slice, thread};
 
 use oracle::calls::{compare, compare_call, Call, Depth, Difference, Setting};
 use oracle::cases::DEFAULT_LIMIT;
-use oracle::conformance;
+use oracle::conformance::{self, Asked};
 use oracle::grammar::grown_text;
 use oracle::limits::MAX_MESSAGE_SIZE;
 use oracle::notation::escaped;
@@ -105,6 +105,14 @@ impl Worker<'_> {
         }
     }
 
+    /// One call, on a text that is shown by a name.
+    fn examine_call(&mut self, name: &str, text: &[u8], call: Call) {
+        match compare_call(text, call) {
+            Ok(compared) => self.tally.pass(compared),
+            Err(difference) => self.fail(name.to_string(), &difference),
+        }
+    }
+
     /// Counts a text that differs; the same smallest one is shown once.
     fn fail(&mut self, text: String, difference: &Difference) {
         self.tally.fail();
@@ -117,12 +125,21 @@ impl Worker<'_> {
     }
 }
 
+/// Each text everywhere, and what its case asks: its place may be one that is
+/// tried nowhere else.
 fn conformance_list(worker: &mut Worker) {
     let cases = conformance::cases();
     for index in worker.share(cases.len()) {
         let case = &cases[index];
         let (mode, limit) = (case.mode as u8, case.limit);
-        worker.examine(&case.text, Setting { mode, limit }, Depth::Everywhere);
+        let setting = Setting { mode, limit };
+        worker.examine(&case.text, setting, Depth::Everywhere);
+        let call = match case.asked {
+            Asked::Whole => Call::Text(setting),
+            Asked::OneToken(from) => Call::Token(from, setting),
+            Asked::PlaceOf(offset) => Call::Place(offset),
+        };
+        worker.examine_call(&case.name, &case.text, call);
     }
 }
 
@@ -223,10 +240,7 @@ fn largest_text(worker: &mut Worker, name: &str, text: &[u8]) {
         Call::Place(MAX_MESSAGE_SIZE),
         Call::Place(MAX_MESSAGE_SIZE + 1),
     ] {
-        match compare_call(text, call) {
-            Ok(compared) => worker.tally.pass(compared),
-            Err(difference) => worker.fail(format!("{} bytes: {name}", text.len()), &difference),
-        }
+        worker.examine_call(&format!("{} bytes: {name}", text.len()), text, call);
     }
 }
 

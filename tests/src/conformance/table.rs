@@ -75,6 +75,7 @@ pub const RULES: &[Rule] = &[
         ("block-star-apart", "/* * / */"),
         ("block-holds-all", "/* \"#//\\ é€😀\u{0} */b"),
         ("block-quote", "/*\"*/\"a\""),
+        ("block-slash-first", "/*/ a */"),
     ]),
     // "Strict open block comments stop one byte before the end ... never
     // before their content." Where that is inside a character, ours ends
@@ -136,6 +137,7 @@ pub const RULES: &[Rule] = &[
         ("shorter", "tru fals nul"),
         ("dotted", "true.a null."),
         ("underscore", "_true null_"),
+        ("after-dot", "a.true .null"),
         ("before-punctuation", "true,null]"),
     ]),
     ("punctuation", &[
@@ -191,6 +193,9 @@ pub const RULES: &[Rule] = &[
         ("two", "@type@row"),
         ("after-name", "a@b"),
         ("before-punctuation", "@dataset(a)"),
+        ("before-quote", "@b\"A\""),
+        // Its body is read as PXF.
+        ("proto-body", "@proto { message A { string s = 1; } }"),
     ]),
     // "15 `@` without name"
     ("directive-without-name", &[
@@ -219,6 +224,11 @@ pub const RULES: &[Rule] = &[
         ("list", "[1,-2]"),
         ("minus-between", "1-2"),
         ("plus-between", "1+2"),
+        ("before-bytes", "1b\"A\""),
+        ("four-digits", "2024"),
+        ("four-digits-later", "a 2024"),
+        ("four-digits-before-newline", "2024\n"),
+        ("four-digits-before-colon", "2024:"),
     ]),
     ("precision", &[
         ("int", "12p3"),
@@ -268,6 +278,17 @@ pub const RULES: &[Rule] = &[
         ("exponent-unit", "1e5s"),
         ("leading-zeros", "00.50"),
         ("no-leading-digit", ".5"),
+        ("no-leading-digit-unit", ".5s"),
+        ("dot-unit-alone", "1.s"),
+        ("fraction-exponent-sign-alone", "1.5E+"),
+        ("exponent-minus-alone", "1E-"),
+        ("dot-exponent-capital", "1.E5"),
+        ("fraction-exponent-dot", "1.2e3.4"),
+        ("fraction-dots", "1.2..3"),
+        ("two-fractions-negative", "-1.2.3"),
+        ("two-fractions-exponent", "1.2.3e4"),
+        ("two-fractions-precision", "1.2.3p4"),
+        ("fraction-dot-exponent", "1.2.e5"),
     ]),
     ("inf", &[
         ("plus", "+inf"),
@@ -346,6 +367,8 @@ pub const RULES: &[Rule] = &[
         ("holds-signs", "2024-=:;@+-."),
         ("holds-characters", "2024-é€😀\u{a0}\u{0}"),
         ("holds-backslash", "2024-\\n"),
+        ("holds-vertical-tab", "2024-\u{b}1 a"),
+        ("holds-form-feed", "2024-\u{c}1 a"),
         ("two", "2024-1 2025-2"),
     ]),
     // "Durations (`go_duration::parse`): number at most 2^63, unit, repeated."
@@ -369,6 +392,7 @@ pub const RULES: &[Rule] = &[
         ("fraction-negative", "-1.5ms"),
         ("fraction-several", "1.5h1.25m"),
         ("fraction-without-whole-later", "1h.5m"),
+        ("fraction-without-whole-same-unit", "1s.5s"),
         ("fraction-below-nanosecond", "0.9ns"),
         ("fraction-zeros", "1.000s"),
         ("fraction-rounded", "0.1s0.2s0.3s"),
@@ -386,14 +410,21 @@ pub const RULES: &[Rule] = &[
         ("least", "-9223372036854775808ns"),
         ("largest-sum", "2562047h47m16.854775807s"),
         ("least-sum", "-2562047h47m16.854775808s"),
+        ("least-fraction", "-9223372036.854775808s"),
         ("capital-ends", "5sX"),
         ("underscore-ends", "5s_"),
         ("hyphen-ends", "5s-5s"),
         ("point-at-end", "5s."),
         ("point-before-letter", "5s.x"),
+        ("point-before-unit", "1s.s"),
         ("blank-between", "1h 30m"),
         ("greek-mu-is-none", "5\u{3bc}s"),
         ("greek-mu-later", "5s5\u{3bc}s"),
+        // The micro sign is 0xC2 0xB5.
+        ("first-byte-of-micro-sign", "5\u{b4}s"),
+        ("first-byte-of-micro-sign-later", "5s\u{b4}s"),
+        ("second-byte-of-micro-sign", "5\u{f5}s"),
+        ("second-byte-of-micro-sign-later", "5s\u{f5}s"),
         ("before-comment", "5s# a"),
         ("before-list-end", "[5s,6m]"),
     ]),
@@ -407,10 +438,13 @@ pub const RULES: &[Rule] = &[
         ("micro-sign-after-unit", "5s\u{b5}"),
         ("micro-sign-then-micro", "5\u{b5}m"),
         ("name", "5sec"),
+        ("b-before-quote", "5sb\"A\""),
         ("later-unit", "5s6x"),
         ("missing-last-unit", "5s6"),
         ("missing-last-unit-fraction", "5s.5"),
         ("missing-unit-fraction", "5h1.5"),
+        ("missing-unit-fraction-after-hour", "1h2.5"),
+        ("missing-unit-point", "1s2.s"),
         ("two-fractions", "5m1.2.3s"),
         ("exponent", "5s1e5"),
         ("precision", "5sp3"),
@@ -454,6 +488,9 @@ pub const RULES: &[Rule] = &[
         ("x-makes-four-bytes", r#""\xf0\x9f\x98\x80""#),
         ("octal", r#""\101\000\177""#),
         ("octal-three-digits-only", r#""\1012""#),
+        ("octal-sevens-after-0", r#""\077""#),
+        ("octal-sevens-after-1", r#""\177""#),
+        ("octal-sevens-after-2", r#""\302\277""#),
         ("octal-makes-character", r#""\303\251""#),
         ("octal-and-x", r#""\303\xA9""#),
         ("u-one-byte", r#""\u0041\u0000\u007f""#),
@@ -488,6 +525,8 @@ pub const RULES: &[Rule] = &[
         ("two-digits-more", r#""\01 ab""#),
         ("eight-second", r#""\081""#),
         ("eight-third", r#""\018""#),
+        ("eight-second-after-3", r#""\387""#),
+        ("eight-third-after-3", r#""\378""#),
         ("end-second", r#""\1"#),
         ("end-third", r#""\17"#),
         ("character", r#""\1é""#),
@@ -565,6 +604,10 @@ pub const RULES: &[Rule] = &[
         ("character", "\"é"),
         ("escaped-quote", r#""a\""#),
         ("escaped-backslash", r#""a\\"#),
+        ("after-x", r#""\x41"#),
+        ("after-octal", r#""\101"#),
+        ("after-u", r#""\u0041"#),
+        ("after-capital-u", r#""\U00000041"#),
         ("after-closed", "\"a\" \"b"),
         ("comment-inside", "\"a # b"),
     ]),
@@ -572,6 +615,7 @@ pub const RULES: &[Rule] = &[
     ("string-open-escape", &[
         ("alone", "\"\\"),
         ("text", "\"ab\\"),
+        ("character", "\"é\\"),
         ("after-escaped-backslash", "\"\\\\\\"),
         ("after-bad-escape", "\"\\q\\"),
     ]),
@@ -579,6 +623,7 @@ pub const RULES: &[Rule] = &[
     ("string-not-utf8", &[
         ("ff", r#""\xff""#),
         ("octal", r#""\377""#),
+        ("octal-continuation", r#""\277""#),
         ("lead-alone", r#""\xC3""#),
         ("continuation-alone", r#""\x80""#),
         ("lead-then-letter", r#""\xC3a""#),
@@ -620,6 +665,7 @@ pub const RULES: &[Rule] = &[
         ("leading-newline-dropped", "\"\"\"\na\"\"\""),
         ("one-leading-newline-only", "\"\"\"\n\n\na\"\"\""),
         ("return-newline-kept", "\"\"\"\r\na\"\"\""),
+        ("return-newlines", "\"\"\"\r\n  a\r\n  \"\"\""),
         ("last-line-empty", "\"\"\"a\n\"\"\""),
         ("last-line-blank", "\"\"\"a\n  \"\"\""),
         ("last-line-text", "\"\"\"\n  a\n  b\"\"\""),
@@ -663,6 +709,8 @@ pub const RULES: &[Rule] = &[
         ("four-byte-character", "\"\"\"a😀"),
         ("only-a-character", "\"\"\"😀"),
         ("newlines", "\"\"\"\n\n\n"),
+        ("newline", "\"\"\"\n"),
+        ("blanks", "\"\"\"  "),
         ("dedented-when-tolerant", "\"\"\"\n  a\n  "),
         ("text-last-when-tolerant", "\"\"\"\n  a\n  b"),
         ("after-closed", "\"\"\"a\"\"\" \"\"\"b"),
@@ -750,6 +798,8 @@ pub const UTF8: &[(&str, &[u8])] = &[
     ("four-largest", b"\xF4\x8F\xBF\xBF"),
     ("four-above-largest", b"\xF4\x90\x80\x80"),
     ("lead-f5", b"\xF5\x80\x80\x80"),
+    ("lead-f6", b"\xF6\x80\x80\x80"),
+    ("lead-f7", b"\xF7\x80\x80\x80"),
     ("five-bytes", b"\xF8\x88\x80\x80\x80"),
     ("six-bytes", b"\xFC\x84\x80\x80\x80\x80"),
     ("fe", b"\xFE"),
@@ -767,18 +817,59 @@ pub const UTF8: &[(&str, &[u8])] = &[
 #[rustfmt::skip]
 pub const LIMITED: &[(&str, &[u64], &str)] = &[
     ("empty", &[0, 1, u64::MAX], "b\"\""),
-    ("at-closing-quote", &[0, 2, 3, 4, u64::MAX], "b\"AAAA\""),
+    ("at-closing-quote", &[0, 2, 3, 4, 1 << 32, u64::MAX], "b\"AAAA\""),
     ("before-next-byte", &[0, 2, 3, 5, 6, 7], "b\"AAAABBBB\" c"),
     ("padding-counts", &[1, 2, 3], "b\"QQ==\""),
+    ("padding-counts-zero-byte", &[1, 2, 3], "b\"AA==\""),
+    ("two-after-four", &[4], "b\"AAAAAA\""),
     ("at-newline", &[2, 3], "b\"AAAA\n"),
     ("at-end-unasked", &[2, 3], "b\"AAAA"),
     ("before-end", &[2, 3], "b\"AAAAA"),
     ("inside-two-byte-character", &[2, 3], "b\"AAAé\" c"),
     ("inside-three-byte-character", &[2, 3], "b\"AA€A\" c"),
     ("inside-four-byte-character", &[2, 3], "b\"A😀\" c"),
+    ("open-two-byte-character", &[2, 3], "b\"AAAé"),
+    ("open-three-byte-character", &[2, 3], "b\"AA€"),
+    ("open-four-byte-character", &[2, 3], "b\"A😀"),
+    ("open-before-character", &[2], "b\"AAAAé"),
     ("after-character", &[2, 3], "b\"éé\" c"),
     ("second-literal", &[3], "b\"AAAA\" b\"AAAAAAAA\" d"),
     ("rest-read-on", &[0], "b\"AAAA = 1\" \"x\ny"),
+];
+
+/// "f as the nearest f64 is multiplied by the unit divided by the scale, each
+/// step rounded once, the quotient first, and the result truncated". Each text
+/// is named for another formula, which is one nanosecond off on it; strict.
+#[rustfmt::skip]
+pub const DURATION_FORMULA: &[(&str, &str)] = &[
+    // f / scale * unit
+    ("ratio-first-minutes", "1.57m"),
+    ("ratio-first-hours", "0.29h"),
+    ("ratio-first-seconds", "0.0157s"),
+    ("ratio-first-milliseconds", "0.0157ms"),
+    ("ratio-first-negative", "-1.57m"),
+    ("ratio-first-in-sum", "1h1.57m"),
+    // f * unit / scale
+    ("product-first-8-digits", "0.45429722h"),
+    ("product-first-8-digits-again", "0.94050132h"),
+    ("product-first-minutes", "0.944360686m"),
+    // in whole numbers
+    ("exact-is-more", "0.00232673743000h"),
+    ("exact-is-less", "0.89023660879999994m"),
+    ("exact-of-kept-digits", "0.00000903308500h"),
+    // the exact value as the nearest f64
+    ("rounded-once", "0.00806089982250h"),
+    // the product of f and the rounded quotient, not rounded
+    ("fused-minutes", "0.01419804210m"),
+    ("fused-hours", "0.0875276123450h"),
+    ("18-digits-kept", "0.8240929606574999590020h"),
+    // the nearest whole number
+    ("not-truncated-nanoseconds", "0.6ns"),
+    ("not-truncated-microseconds", "0.0006us"),
+    ("not-truncated-milliseconds", "0.7052146ms"),
+    ("not-truncated-seconds", "0.2027269129s"),
+    ("not-truncated-minutes", "0.00000131631m"),
+    ("not-truncated-hours", "0.111459951078h"),
 ];
 
 /// Texts that one token is read from at each offset: a report and a comment
@@ -826,6 +917,39 @@ pub const UNTRUE: &[(&str, &str, [usize; 3])] = &[
     ("column-in-characters", "é\nb", [2, 1, 2]),
     ("column-goes-on-after-newline", "é\nb", [3, 1, 4]),
     ("column-zero", "é\nb", [0, 1, 0]),
+];
+
+/// Texts that the place of each offset is asked of; strict.
+#[rustfmt::skip]
+pub const PLACES_OF: &[(&str, &str)] = &[
+    ("empty-text", ""),
+    ("two-lines", "é\nb"),
+    ("empty-line", "a\n\nb"),
+    ("characters", "a€😀\r\n\"x"),
+];
+
+/// Each text with an offset that is not in it; strict.
+#[rustfmt::skip]
+pub const NO_PLACE: &[(&str, &str, usize)] = &[
+    ("beyond-empty-text", "", 1),
+    ("beyond-text", "é\nb", 5),
+    ("beyond-text-after-newline", "a\n", 3),
+    ("true-in-32-bits", "é\nb", 4 + (1 << 32)),
+    ("true-in-32-bits-empty-text", "", 1 << 32),
+    ("largest-signed", "é\nb", i64::MAX as usize),
+    ("beyond-largest-signed", "é\nb", 1 << 63),
+    ("largest", "é\nb", usize::MAX),
+    ("largest-empty-text", "", usize::MAX),
+];
+
+/// Ill-formed, each with an offset that is in it; strict.
+#[rustfmt::skip]
+pub const NO_TEXT_NO_PLACE: &[(&str, &[u8], usize)] = &[
+    ("before-ill-formed", b"a b\xFF", 1),
+    ("at-ill-formed", b"a b\xFF c", 3),
+    ("after-ill-formed", b"a b\xFF c", 5),
+    ("inside-cut-character", b"a\xE2\x82", 2),
+    ("end", b"a\xC3", 2),
 ];
 
 /// Read whole, or where there is an offset one token from it, with buffers

@@ -196,6 +196,7 @@ pub const RULES: &[Rule] = &[
         ("before-quote", "@b\"A\""),
         // Its body is read as PXF.
         ("proto-body", "@proto { message A { string s = 1; } }"),
+        ("proto-body-semicolon", "@proto{;}"),
     ]),
     // "15 `@` without name"
     ("directive-without-name", &[
@@ -479,6 +480,7 @@ pub const RULES: &[Rule] = &[
         ("backslash", r#""\\""#),
         ("apostrophe", r#""\'""#),
         ("question-mark", r#""\?""#),
+        ("letter-a", r#""\a""#),
         ("letters", r#""\a\b\f\n\r\t\v""#),
         ("x", r#""\x41\x7f""#),
         ("x-zero", r#""\x00""#),
@@ -575,6 +577,7 @@ pub const RULES: &[Rule] = &[
         ("blank", r#""\ ""#),
         ("tab", "\"\\\t\""),
         ("nul", "\"\\\u{0}\""),
+        ("newline", "\"\\\n\""),
         ("newline-goes-on", "\"a\\\nb\""),
         ("newline-then-newline", "\"\\\n\n\""),
         ("return-newline", "\"\\\r\n\""),
@@ -912,6 +915,7 @@ pub const UNTRUE: &[(&str, &str, [usize; 3])] = &[
     ("line-too-large", "é\nb", [4, 3, 2]),
     ("line-too-large-before-newline", "é\nb", [2, 2, 3]),
     ("line-zero", "é\nb", [0, 0, 1]),
+    ("line-zero-empty-text", "", [0, 0, 1]),
     ("column-too-small", "é\nb", [4, 2, 1]),
     ("column-too-large", "é\nb", [4, 2, 3]),
     ("column-in-characters", "é\nb", [2, 1, 2]),
@@ -923,6 +927,7 @@ pub const UNTRUE: &[(&str, &str, [usize; 3])] = &[
 #[rustfmt::skip]
 pub const PLACES_OF: &[(&str, &str)] = &[
     ("empty-text", ""),
+    ("one-character", "é"),
     ("two-lines", "é\nb"),
     ("empty-line", "a\n\nb"),
     ("characters", "a€😀\r\n\"x"),

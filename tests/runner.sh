@@ -131,7 +131,7 @@ start_of() {
     cat errors
 }
 says 'the command was stopped: it printed over 4194304 bytes' "0 passed, $((cases + 2)) failed" >expected
-holds 'a reader that never stops' 1 end_of "$run" yes "$(printf '%01000d')"
+holds 'a reader that never stops' 1 end_of "$run" yes "$(printf '%01000d' 0)"
 says "$(sed -n '1s/$/: missing/p' "$list")" >expected
 holds 'a report that is read in part' 0 start_of "$run" true
 says "$cases passed, 0 failed" 'a note' >expected

@@ -19,7 +19,7 @@ use crate::records::{Lent, Mode, Reading, Refusal, FIRST};
 use crate::token::Position;
 
 /// How many cases there are.
-pub const COUNT: usize = 3_213;
+pub const COUNT: usize = 3_248;
 /// No text is longer, in bytes.
 pub const LONGEST_TEXT: usize = 400;
 /// No buffer is longer where its length is stated: the program that replays
@@ -86,6 +86,7 @@ pub fn cases() -> Vec<Case> {
     list.utf8_leads();
     list.escapes();
     list.hex_digits();
+    list.octal_digits();
     list.indents();
     list.durations();
     list.duration_formula();
@@ -225,8 +226,16 @@ impl List {
         }
     }
 
+    /// An escape with this digit; what is none gives another token in each mode.
+    fn add_digit(&mut self, name: String, text: &str, is_digit: bool) {
+        match is_digit {
+            true => self.add(name, text.as_bytes(), Mode::Strict, DEFAULT_LIMIT),
+            false => self.add_both(name, text.as_bytes(), DEFAULT_LIMIT),
+        }
+    }
+
     /// Each hexadecimal digit, and those beside them, in the escapes that take
-    /// such digits. The digits give the same in both modes, the others do not.
+    /// such digits.
     fn hex_digits(&mut self) {
         for byte in *b"0123456789ABCDEFabcdef/:@G`g" {
             let c = char::from(byte);
@@ -237,10 +246,21 @@ impl List {
                 ("capital-u-fifth", format!(r#""\U0000{c}041""#)),
             ] {
                 let name = format!("hex-digit-{variant}-{byte:02x}");
-                match c.is_ascii_hexdigit() {
-                    true => self.add(name, text.as_bytes(), Mode::Strict, DEFAULT_LIMIT),
-                    false => self.add_both(name, text.as_bytes(), DEFAULT_LIMIT),
-                }
+                self.add_digit(name, &text, c.is_ascii_hexdigit());
+            }
+        }
+    }
+
+    /// The same for the second and the third octal digit.
+    fn octal_digits(&mut self) {
+        for byte in *b"01234567/8" {
+            let c = char::from(byte);
+            for (variant, text) in [
+                ("second", format!(r#""\0{c}1""#)),
+                ("third", format!(r#""\10{c}""#)),
+            ] {
+                let name = format!("octal-digit-{variant}-{byte:02x}");
+                self.add_digit(name, &text, matches!(c, '0'..='7'));
             }
         }
     }

@@ -866,6 +866,20 @@ pub const DURATION_FORMULA: &[(&str, &str)] = &[
     ("fused-minutes", "0.01419804210m"),
     ("fused-hours", "0.0875276123450h"),
     ("18-digits-kept", "0.8240929606574999590020h"),
+    ("18-digits-kept-minutes", "0.7347989840000000000m"),
+    // 19 digits, though they write a number above 2^63
+    ("19-digits-kept-hours", "0.9478344075277777777h"),
+    ("19-digits-kept-minutes", "0.967753466616666666667m"),
+    // f as an f64 that is not the nearest, or where two are, not the even one
+    ("cast-down-hours", "0.4757460415483333333h"),
+    ("cast-down-minutes", "0.11659599511666667m"),
+    ("cast-up-hours", "0.964499241434999999h"),
+    ("cast-up-minutes", "0.811757577650000002m"),
+    ("cast-ties-away-hours", "0.44205742993583332h"),
+    ("cast-ties-away-minutes", "0.26030665276666666m"),
+    // the scale as the f64 nearest to the power of ten
+    ("power-of-ten-seconds", "0.0000001250000000000000000s"),
+    ("power-of-ten-hours", "0.0000000709663888888888890h"),
     // the nearest whole number
     ("not-truncated-nanoseconds", "0.6ns"),
     ("not-truncated-microseconds", "0.0006us"),

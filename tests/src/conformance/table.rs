@@ -945,6 +945,8 @@ pub const PLACES_OF: &[(&str, &str)] = &[
     ("two-lines", "é\nb"),
     ("empty-line", "a\n\nb"),
     ("characters", "a€😀\r\n\"x"),
+    // The bytes after the first are 0x80 and 0xBF; before them stands 0x7F.
+    ("continuation-bounds", "\u{7f}\u{80}\u{bf}"),
 ];
 
 /// Each text with an offset that is not in it; strict.

@@ -17,19 +17,18 @@ static void print_value(const uint8_t *value, int64_t length) {
 }
 
 int main(int argc, char **argv) {
+    if (argc != 2 || pxf_interface() != PXF_INTERFACE)
+        return fprintf(stderr, "usage: tokens FILE, linked with the archive of interface %d\n", PXF_INTERFACE), 2;
     size_t room = (size_t)PXF_MAX_MESSAGE_SIZE + 1; /* one byte more than a text may have, so that a longer one is refused */
-    uint8_t *text = malloc(room), *strings;
-    int64_t *tokens, answer[6], reports[1];
-    FILE *file = argc == 2 ? fopen(argv[1], "rb") : NULL;
-    if (!file || !text || pxf_interface() != PXF_INTERFACE)
-        return fprintf(stderr, "usage: tokens FILE, with the archive of interface %d\n", PXF_INTERFACE), 2;
-    size_t length = fread(text, 1, room, file);
+    uint8_t *text = malloc(room);
+    FILE *file = fopen(argv[1], "rb");
+    size_t length = file && text ? fread(text, 1, room, file) : 0;
 
     /* Buffers of these lengths suffice for any text of the length; a strict reading makes no report. */
-    tokens = malloc(PXF_TOKEN_WIDTH * (length + 1) * sizeof *tokens);
-    strings = malloc(length + 1);
-    if (ferror(file) || !tokens || !strings)
-        return fprintf(stderr, "tokens: %s cannot be read, or there is no memory\n", argv[1]), 2;
+    int64_t *tokens = malloc(PXF_TOKEN_WIDTH * (length + 1) * sizeof *tokens), reports[1], answer[6];
+    uint8_t *strings = malloc(length + 1);
+    if (!file || ferror(file) || !text || !tokens || !strings)
+        return fprintf(stderr, "tokens: %s cannot be read, or there is no memory for it\n", argv[1]), 2;
     int refused = pxf_read_text(text, length, PXF_STRICT, PXF_MAX_BYTES_LITERAL_LENGTH, tokens, PXF_TOKEN_WIDTH * (length + 1), strings, length,
         reports, 0, answer);
     if (refused)

@@ -107,16 +107,16 @@ extern "C" {
 #define PXF_REASON_BYTES_ENDED_AT_NEWLINE 20
 
 /* The refusals. */
-#define PXF_REFUSED_TEXT_TOO_LONG 1   /* the text exceeds PXF_MAX_MESSAGE_SIZE bytes */
-#define PXF_REFUSED_NOT_UTF8 2        /* the text isn't UTF-8; answer[0] is the offset of its first ill-formed sequence */
-#define PXF_REFUSED_NO_PLACE 3        /* an offset beyond the text or inside a character, or a place whose line or column is untrue */
-#define PXF_REFUSED_TOKENS_SHORT 4    /* the token slice is shorter than the result needs */
-#define PXF_REFUSED_STRINGS_SHORT 5   /* the string buffer is */
-#define PXF_REFUSED_REPORTS_SHORT 6   /* the report slice is */
-#define PXF_REFUSED_NO_TOKEN_FILE 7   /* under 9 bytes, wrong mark or version, or a length other than 9 + 16 * count */
-#define PXF_REFUSED_BAD_RECORDS 8     /* token records break the record rules */
-#define PXF_REFUSED_COLUMN_TOO_LARGE 9 /* a column above 65,535 is to go into a token file */
-#define PXF_REFUSED_FILE_SHORT 10     /* the buffer for a token file is too short */
+#define PXF_REFUSED_TEXT_TOO_LONG 1     /* the text exceeds PXF_MAX_MESSAGE_SIZE bytes */
+#define PXF_REFUSED_NOT_UTF8 2          /* the text isn't UTF-8; answer[0] is the offset of its first ill-formed sequence */
+#define PXF_REFUSED_NO_PLACE 3          /* an offset beyond the text or inside a character, or a place whose line or column is untrue */
+#define PXF_REFUSED_TOKENS_SHORT 4      /* the token slice is shorter than the result needs */
+#define PXF_REFUSED_STRINGS_SHORT 5     /* the string buffer is */
+#define PXF_REFUSED_REPORTS_SHORT 6     /* the report slice is */
+#define PXF_REFUSED_NO_TOKEN_FILE 7     /* under 9 bytes, wrong mark or version, or a length other than 9 + 16 * count */
+#define PXF_REFUSED_BAD_RECORDS 8       /* token records break the record rules */
+#define PXF_REFUSED_COLUMN_TOO_LARGE 9  /* a column above 65,535 is to go into a token file */
+#define PXF_REFUSED_OUT_SHORT 10        /* the buffer for a token file is too short */
 
 /* Gives the number of the interface that the archive has. */
 uint32_t pxf_interface(void);

@@ -161,7 +161,7 @@ int main(void) {
     ACCEPTED(pxf_write_token_file(records, 36, 3, lent.file, 57, answer), 57, 0, 0, 0, 0, 0);
     memcpy(file, lent.file, sizeof file);
     REFUSED(PXF_REFUSED_BAD_RECORDS, 0, pxf_write_token_file(records, 35, 3, lent.file, 57, answer));
-    REFUSED(PXF_REFUSED_FILE_SHORT, 0, pxf_write_token_file(records, 36, 3, lent.file, 56, answer));
+    REFUSED(PXF_REFUSED_OUT_SHORT, 0, pxf_write_token_file(records, 36, 3, lent.file, 56, answer));
     ACCEPTED(pxf_read_token_file(file, 57, lent.tokens, 36, answer), 3, 0, 0, 0, 0, 0);
     HOLDS(lent.tokens[PXF_TOKEN_WIDTH + PXF_TOKEN_KIND] == PXF_KIND_STRING && lent.tokens[PXF_TOKEN_WIDTH + PXF_TOKEN_VALUE_LENGTH] == 0);
     REFUSED(PXF_REFUSED_NO_TOKEN_FILE, 0, pxf_read_token_file(file, 56, lent.tokens, 36, answer));

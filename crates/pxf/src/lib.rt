@@ -1,5 +1,5 @@
 // The C interface of the token reader: each function calls one public call, returns document 01's number of its answer, and sets all six numbers
-// of `answer`.
+// of `answer`; but for `pxf_interface`, which gives the interface's own number.
 mod answer;
 pub mod interface;
 pub mod texts;

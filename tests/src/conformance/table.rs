@@ -578,6 +578,7 @@ pub const RULES: &[Rule] = &[
         ("tab", "\"\\\t\""),
         ("nul", "\"\\\u{0}\""),
         ("newline", "\"\\\n\""),
+        ("newline-last", "\"\\\n"),
         ("newline-goes-on", "\"a\\\nb\""),
         ("newline-then-newline", "\"\\\n\n\""),
         ("return-newline", "\"\\\r\n\""),

@@ -1,5 +1,5 @@
 /* Lists the tokens of a PXF text, one a line: line, column, kind and its name, then the value in quotes, or the reason of an Illegal token.
- *     cc -I include examples/tokens.c target/staticlib/libpxf.a -o tokens && ./tokens examples/sloop.pxf */
+ *     cc -I include examples/tokens.c target/staticlib/libpxf.a -o target/tokens && target/tokens examples/sloop.pxf */
 #include <pxf.h>
 #include <stdio.h>
 #include <stdlib.h>

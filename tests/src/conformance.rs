@@ -19,7 +19,7 @@ use crate::records::{Lent, Mode, Reading, Refusal, FIRST};
 use crate::token::Position;
 
 /// How many cases there are.
-pub const COUNT: usize = 3_256;
+pub const COUNT: usize = 3_264;
 /// No text is longer, in bytes.
 pub const LONGEST_TEXT: usize = 400;
 /// No buffer is longer where its length is stated: the program that replays

@@ -96,6 +96,8 @@ pub const RULES: &[Rule] = &[
         ("four-byte-character", "/* 😀"),
         ("only-a-character", "/*😀"),
         ("character-before-last", "/* éa"),
+        // 0x7F is below the bytes that go on with a character.
+        ("delete-last", "/*a\u{7f}"),
         ("after-closed", "/* a */ /* b"),
     ]),
     ("slash", &[
@@ -586,6 +588,7 @@ pub const RULES: &[Rule] = &[
         ("three-byte-character", r#""\€""#),
         ("four-byte-character", r#""\😀""#),
         ("character-more", r#""\éa" b"#),
+        ("delete-next", "\"\\q\u{7f}\""),
         ("several", r#""\q\w\e""#),
         ("last", r#""\q"#),
     ]),
@@ -712,6 +715,7 @@ pub const RULES: &[Rule] = &[
         ("three-byte-character", "\"\"\"€"),
         ("four-byte-character", "\"\"\"a😀"),
         ("only-a-character", "\"\"\"😀"),
+        ("delete-before-last", "\"\"\"a\u{7f}b"),
         ("newlines", "\"\"\"\n\n\n"),
         ("newline", "\"\"\"\n"),
         ("blanks", "\"\"\"  "),
@@ -837,6 +841,7 @@ pub const LIMITED: &[(&str, &[u64], &str)] = &[
     ("open-four-byte-character", &[2, 3], "b\"A😀"),
     ("open-before-character", &[2], "b\"AAAAé"),
     ("after-character", &[2, 3], "b\"éé\" c"),
+    ("before-delete", &[2], "b\"AAAA\u{7f}\""),
     ("second-literal", &[3], "b\"AAAA\" b\"AAAAAAAA\" d"),
     ("rest-read-on", &[0], "b\"AAAA = 1\" \"x\ny"),
 ];

@@ -6,26 +6,10 @@ set -euo pipefail
 cd "$(dirname "$0")/.."
 archive=target/staticlib/libpxf.a
 warnings=(-Wall -Wextra -Wpedantic -Werror)
-work=$(mktemp -d)
-trap 'rm -rf "$work"' EXIT
-passed=0
-failed=0
-
-# holds NAME STATUS COMMAND..: the command prints the file `expected` and ends with this status.
-holds() {
-    local name=$1 status=$2 ended=0
-    shift 2
-    "$@" >"$work/printed" || ended=$?
-    if [ "$ended" -eq "$status" ] && cmp -s "$work/printed" "$work/expected"; then
-        passed=$((passed + 1))
-    else
-        failed=$((failed + 1))
-        echo "failed: $name"
-    fi
-}
+. tests/holds.sh
 
 # expect LINE..: what is expected, a line each, or nothing.
-expect() { if [ $# -gt 0 ]; then printf '%s\n' "$@"; fi >"$work/expected"; }
+expect() { if [ $# -gt 0 ]; then says "$@"; fi >"$work/expected"; }
 
 # c ARGUMENT.., cpp ARGUMENT..: the compilers, with the header's folder and all warnings.
 c() { "${CC:-cc}" -std=c99 "${warnings[@]}" -I include "$@"; }
@@ -178,5 +162,4 @@ if command -v "${CXX:-c++}" >"$work/report"; then
     holds 'each call, from C++' 0 "$work/calls++"
 fi
 
-echo "$passed passed, $failed failed"
-[ "$failed" -eq 0 ]
+tally

@@ -2,53 +2,34 @@
 # Runs the built program target/bin/listing, and ./listing, on texts at the borders of what they take. What is printed is held, byte for byte,
 # to lines that are worked out here from document 01: start, end, line, column, kind, reason and nanoseconds of each token.
 # The last line is `N passed, M failed`; the status is 1 where M is not 0.
-set -eu
+set -euo pipefail
 root=$(cd "$(dirname "$0")/.." && pwd)
 program=$root/target/bin/listing
 script=$root/listing
-work=$(mktemp -d)
-trap 'rm -rf "$work"' EXIT
+. "$root/tests/holds.sh"
 cd "$work"
-passed=0
-failed=0
-
-# holds NAME STATUS COMMAND..: run on the file `text`, the command prints the file `expected` and ends with this status.
-holds() {
-    local name=$1 status=$2 ended=0
-    shift 2
-    "$@" <text >printed || ended=$?
-    if [ "$ended" -eq "$status" ] && cmp -s printed expected; then
-        passed=$((passed + 1))
-    else
-        failed=$((failed + 1))
-        echo "failed: $name"
-    fi
-}
 
 # lists NAME: the program prints what is expected; it has no status of its own.
-lists() { holds "$1" 0 "$program"; }
+lists() { holds "$1" 0 "$program" <text; }
 
 # repeat BYTE COUNT
 repeat() { head -c "$2" /dev/zero | tr '\0' "$1"; }
 
-# tokens LINE..: a line for each token.
-tokens() { printf '%s\n' "$@"; }
-
 : >text
-tokens '0 0 1 1 0 0 0' >expected
+says '0 0 1 1 0 0 0' >expected
 lists 'the empty text'
 
 printf 'a = 1.5s\n' >text
-tokens '0 1 1 1 4 0 0' '2 3 1 3 19 0 0' '4 8 1 5 12 0 1500000000' '8 9 1 9 2 0 0' '9 9 2 1 0 0 0' >expected
+says '0 1 1 1 4 0 0' '2 3 1 3 19 0 0' '4 8 1 5 12 0 1500000000' '8 9 1 9 2 0 0' '9 9 2 1 0 0 0' >expected
 lists "document 01's example"
 
 # one name, and blanks, which are no token, of so many bytes
 for size in 8191 8192; do
     repeat a "$size" >text
-    tokens "0 $size 1 1 4 0 0" "$size $size 1 $((size + 1)) 0 0 0" >expected
+    says "0 $size 1 1 4 0 0" "$size $size 1 $((size + 1)) 0 0 0" >expected
     lists "a name of $size bytes"
     repeat ' ' "$size" >text
-    tokens "$size $size 1 $((size + 1)) 0 0 0" >expected
+    says "$size $size 1 $((size + 1)) 0 0 0" >expected
     lists "$size blanks"
 done
 
@@ -77,47 +58,46 @@ lists 'a byte that is no text, at the end of 8192'
 lists 'a character that is cut at the end of 8192 bytes'
 
 { repeat '#' 8190 && printf '\303\251'; } >text
-tokens '0 8192 1 1 3 0 0' '8192 8192 1 8193 0 0 0' >expected
+says '0 8192 1 1 3 0 0' '8192 8192 1 8193 0 0 0' >expected
 lists 'a comment of 8192 bytes that ends with a character of two'
 
 printf 'a\0\0' >text
-tokens '0 1 1 1 4 0 0' '1 2 1 2 1 1 0' '2 3 1 3 1 1 0' '3 3 1 4 0 0 0' >expected
+says '0 1 1 1 4 0 0' '1 2 1 2 1 1 0' '2 3 1 3 1 1 0' '3 3 1 4 0 0 0' >expected
 lists 'bytes 0x00'
 
 printf %s '-1.5h' >text
-tokens "0 5 1 1 12 0 -$((3600 * 1500000000))" '5 5 1 6 0 0 0' >expected
+says "0 5 1 1 12 0 -$((3600 * 1500000000))" '5 5 1 6 0 0 0' >expected
 lists 'a negative duration'
 
 printf %s '-9223372036854775808ns' >text
-tokens '0 22 1 1 12 0 -9223372036854775808' '22 22 1 23 0 0 0' >expected
+says '0 22 1 1 12 0 -9223372036854775808' '22 22 1 23 0 0 0' >expected
 lists 'the least duration'
 
 printf %s '9223372036854775808ns' >text
-tokens '0 21 1 1 1 18 0' '21 21 1 22 0 0 0' >expected
+says '0 21 1 1 1 18 0' '21 21 1 22 0 0 0' >expected
 lists 'a duration that is too large'
 
 printf '"' >text
-tokens '0 1 1 1 1 10 0' '1 1 1 2 0 0 0' >expected
+says '0 1 1 1 1 10 0' '1 1 1 2 0 0 0' >expected
 lists 'an open string'
 
 printf '[' >text
-tokens '0 1 1 1 15 0 0' '1 1 1 2 0 0 0' >expected
-holds './listing < FILE' 0 "$script"
-holds './listing -' 0 "$script" -
+says '0 1 1 1 15 0 0' '1 1 1 2 0 0 0' >expected
+holds './listing < FILE' 0 "$script" <text
+holds './listing -' 0 "$script" - <text
 # standard input has another text now
 mv text file
 : >text
-holds './listing FILE' 0 "$script" file
+holds './listing FILE' 0 "$script" file <text
 
 printf '\377' >text
 echo 'refused 2' >expected
-holds './listing, refused' 1 "$script"
+holds './listing, refused' 1 "$script" <text
 repeat a 8193 >text
 echo 'too long' >expected
-holds './listing, too long' 1 "$script"
+holds './listing, too long' 1 "$script" <text
 : >expected
-holds './listing, no such file' 2 "$script" missing 2>/dev/null
-holds './listing, two files' 2 "$script" file file 2>/dev/null
+holds './listing, no such file' 2 "$script" missing <text 2>/dev/null
+holds './listing, two files' 2 "$script" file file <text 2>/dev/null
 
-echo "$passed passed, $failed failed"
-[ "$failed" -eq 0 ]
+tally

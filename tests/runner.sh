@@ -11,33 +11,14 @@ file_questions=$root/conformance/token_files.txt
 file_list=$root/conformance/token_files_answers.txt
 cases=$(grep -c '^case ' "$list")
 files=$(grep -c '' "$file_list")
-work=$(mktemp -d)
-trap 'rm -rf "$work"' EXIT
+. "$root/tests/holds.sh"
 cd "$work"
-passed=0
-failed=0
-
-# holds NAME STATUS COMMAND..: the command prints the file `expected` and ends with this status.
-holds() {
-    local name=$1 status=$2 ended=0
-    shift 2
-    "$@" >printed || ended=$?
-    if [ "$ended" -eq "$status" ] && cmp -s printed expected; then
-        passed=$((passed + 1))
-    else
-        failed=$((failed + 1))
-        echo "failed: $name"
-    fi
-}
 
 # reader LINE..: makes ./reader, a shell script of these lines.
 reader() {
     printf '%s\n' '#!/bin/sh' "$@" >reader
     chmod +x reader
 }
-
-# says LINE..: what is expected, a line each.
-says() { printf '%s\n' "$@"; }
 
 # asks NAME: the lines that ask of a case, as they are shown.
 asks() { sed -n "/^case $1\$/,/^text /{/^case /d;s/^/ /p}" "$questions"; }
@@ -186,5 +167,4 @@ says 'the command ended with status 3' "$files passed, 1 failed" >expected
 reader '"$TOKEN_FILES"; exit 3'
 holds 'token files: status 3' 1 "$run" --token-files ./reader
 
-echo "$passed passed, $failed failed"
-[ "$failed" -eq 0 ]
+tally

@@ -242,12 +242,11 @@ fn three_of(line: &[u8]) -> Three {
     }
 }
 
-// The same but for what is asked.
-fn asking(asked: Asked, how: How) -> How
+// The same buffers and limit, with this mode and question.
+fn asking(mode: Mode, asked: Asked, how: How) -> How
     requires { ⌜ Roomy how ⌝ }
     ensures { λ r. ⌜ Roomy r ⌝ }
 {
-    let mode = how.mode;
     How {
         mode,
         limit: how.limit,
@@ -268,14 +267,16 @@ fn from_place(line: &[u8], how: How) -> How
         line: n.b as usize,
         column: n.c as usize,
     };
-    asking(Asked::OneToken(place), how)
+    let mode = how.mode;
+    asking(mode, Asked::OneToken(place), how)
 }
 
 fn at_offset(line: &[u8], how: How) -> How
     requires { ⌜ Roomy how ⌝ }
     ensures { λ r. ⌜ Roomy r ⌝ }
 {
-    asking(Asked::PlaceOf(parse::digits(line) as usize), how)
+    let mode = how.mode;
+    asking(mode, Asked::PlaceOf(parse::digits(line) as usize), how)
 }
 
 fn with_room(line: &[u8], how: How) -> How
@@ -302,16 +303,8 @@ fn with_mode(line: &[u8], how: How) -> How
     requires { ⌜ Roomy how ⌝ }
     ensures { λ r. ⌜ Roomy r ⌝ }
 {
-    let mode = mode_of(line);
     let asked = how.asked;
-    How {
-        mode,
-        limit: how.limit,
-        asked,
-        tokens: how.tokens,
-        strings: how.strings,
-        reports: how.reports,
-    }
+    asking(mode_of(line), asked, how)
 }
 
 // How the text after a line is read. The words of a question differ in their first letters.

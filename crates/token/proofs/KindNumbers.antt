@@ -1,15 +1,19 @@
--- Each kind's number is at most 25, and no two kinds have one number: `kindAt` is a left inverse of `kindNumber`. By cases on the kind.
+-- Each kind's number is at most the last, and no two kinds have one number: `kindAt` is a left inverse of `kindNumber`. By cases on the kind.
 -- Assumes nothing.
 use mathlib.Core.Path.{_≡_, refl, sym, ap, _∙_}
 use mathlib.Core.List.{List, [], _∷_}
 use Prim.Native.Nat.{ℕ, _≤_}
 use lib.Dec.{lit≤}
 use lib.ListN.{getD}
-use Rattle.token.specs.Kind.{kindNumber}
+use Rattle.token.specs.Kind.{kindNumber, eofNumber, lastNumber}
 use Rattle.token.specs.declared.kind.TokenKind.{TokenKind}
 use Rattle.token.specs.declared.kind.TokenKind.the-variants as K
 
-pub number-le : (k : TokenKind) → kindNumber k ≤ 25
+-- the kind is Eof
+abbrev pub IsEof : TokenKind → Type 0
+IsEof k = kindNumber k ≡ eofNumber
+
+pub number-le : (k : TokenKind) → kindNumber k ≤ lastNumber
 unfolding kindNumber
 number-le K.Eof = lit≤ tt
 number-le K.Illegal = lit≤ tt

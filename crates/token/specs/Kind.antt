@@ -5,21 +5,47 @@ use lib.Dec.{eqb}
 use Rattle.token.specs.declared.kind.TokenKind.{TokenKind}
 use Rattle.token.specs.declared.kind.TokenKind.the-variants as K
 
+-- the numbers of the kinds that are asked for by name
+abbrev pub eofNumber : ℕ
+eofNumber = 0
+
+abbrev pub illegalNumber : ℕ
+illegalNumber = 1
+
+abbrev pub newlineNumber : ℕ
+newlineNumber = 2
+
+abbrev pub commentNumber : ℕ
+commentNumber = 3
+
+abbrev pub stringNumber : ℕ
+stringNumber = 5
+
+abbrev pub bytesNumber : ℕ
+bytesNumber = 10
+
+abbrev pub durationNumber : ℕ
+durationNumber = 12
+
+-- and the last number
+abbrev pub lastNumber : ℕ
+lastNumber = 25
+
 -- document 01: "Kind numbers follow `TokenKind` from Eof 0 to AtProto 25"
 unfoldable pub kindNumber : TokenKind → ℕ
-kindNumber K.Eof = 0
-kindNumber K.Illegal = 1
-kindNumber K.Newline = 2
-kindNumber K.Comment = 3
+kindNumber K.Eof = eofNumber
+kindNumber K.Illegal = illegalNumber
+kindNumber K.Newline = newlineNumber
+kindNumber K.Comment = commentNumber
 kindNumber K.Ident = 4
-kindNumber K.String = 5
+kindNumber K.String = stringNumber
 kindNumber K.Int = 6
 kindNumber K.Float = 7
 kindNumber K.Bool = 8
 kindNumber K.Null = 9
-kindNumber K.Bytes = 10
+kindNumber K.Bytes = bytesNumber
 kindNumber K.Timestamp = 11
-kindNumber K.Duration = 12
+kindNumber K.Duration = durationNumber
 kindNumber K.LBrace = 13
 kindNumber K.RBrace = 14
 kindNumber K.LBracket = 15
@@ -32,9 +58,30 @@ kindNumber K.Comma = 21
 kindNumber K.AtType = 22
 kindNumber K.AtDirective = 23
 kindNumber K.AtDataset = 24
-kindNumber K.AtProto = 25
+kindNumber K.AtProto = lastNumber
+
+-- whether a kind is the one of the name
+abbrev pub isEof : TokenKind → Bool
+isEof k = eqb (kindNumber k) eofNumber
+
+abbrev pub isIllegal : TokenKind → Bool
+isIllegal k = eqb (kindNumber k) illegalNumber
+
+abbrev pub isNewline : TokenKind → Bool
+isNewline k = eqb (kindNumber k) newlineNumber
+
+abbrev pub isComment : TokenKind → Bool
+isComment k = eqb (kindNumber k) commentNumber
+
+abbrev pub isString : TokenKind → Bool
+isString k = eqb (kindNumber k) stringNumber
+
+abbrev pub isBytes : TokenKind → Bool
+isBytes k = eqb (kindNumber k) bytesNumber
+
+abbrev pub isDuration : TokenKind → Bool
+isDuration k = eqb (kindNumber k) durationNumber
 
 -- the kinds whose tokens have no newline in any text: all but Illegal, Newline, Comment, String and Bytes
 unfoldable pub onOneLine : TokenKind → Bool
-onOneLine k =
-    not ((((eqb (kindNumber k) 1 || eqb (kindNumber k) 2) || eqb (kindNumber k) 3) || eqb (kindNumber k) 5) || eqb (kindNumber k) 10)
+onOneLine k = not ((((isIllegal k || isNewline k) || isComment k) || isString k) || isBytes k)

@@ -1,4 +1,5 @@
 pub mod Kind
+pub mod Reason
 pub mod Place
 pub mod Layout
 pub mod Examples

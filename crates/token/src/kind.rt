@@ -1,6 +1,23 @@
 // The kinds of tokens, in the order of token.rs.
 ghost use mathlib.Core.Path.{_≡_};
-ghost use Rattle.token.specs.Kind.{kindNumber, onOneLine};
+ghost use lib.Dec.{eqb};
+ghost use Rattle.token.specs.Kind.{kindNumber, isEof, isIllegal, isNewline, isComment, isString, isBytes, onOneLine};
+
+// The numbers of the kinds that are asked for by name.
+pub const EOF: usize = 0;
+
+pub const ILLEGAL: usize = 1;
+
+const NEWLINE: usize = 2;
+
+const COMMENT: usize = 3;
+
+const STRING: usize = 5;
+
+const BYTES: usize = 10;
+
+// The last number.
+pub const LAST: usize = 25;
 
 pub enum TokenKind {
     Eof,
@@ -37,17 +54,17 @@ impl TokenKind {
         ensures { λ r. ⌜ r ≡ kindNumber self ⌝ }
     {
         match self {
-            TokenKind::Eof => 0,
-            TokenKind::Illegal => 1,
-            TokenKind::Newline => 2,
-            TokenKind::Comment => 3,
+            TokenKind::Eof => EOF,
+            TokenKind::Illegal => ILLEGAL,
+            TokenKind::Newline => NEWLINE,
+            TokenKind::Comment => COMMENT,
             TokenKind::Ident => 4,
-            TokenKind::String => 5,
+            TokenKind::String => STRING,
             TokenKind::Int => 6,
             TokenKind::Float => 7,
             TokenKind::Bool => 8,
             TokenKind::Null => 9,
-            TokenKind::Bytes => 10,
+            TokenKind::Bytes => BYTES,
             TokenKind::Timestamp => 11,
             TokenKind::Duration => 12,
             TokenKind::LBrace => 13,
@@ -62,15 +79,60 @@ impl TokenKind {
             TokenKind::AtType => 22,
             TokenKind::AtDirective => 23,
             TokenKind::AtDataset => 24,
-            TokenKind::AtProto => 25,
+            TokenKind::AtProto => LAST,
         }
+    }
+
+    fn has_number(self, n: usize) -> bool
+        ensures { λ r. ⌜ r ≡ eqb (kindNumber self) n ⌝ }
+    {
+        self.number() == n
+    }
+
+    pub fn is_eof(self) -> bool
+        ensures { λ r. ⌜ r ≡ isEof self ⌝ }
+    {
+        self.has_number(EOF)
+    }
+
+    pub fn is_illegal(self) -> bool
+        ensures { λ r. ⌜ r ≡ isIllegal self ⌝ }
+    {
+        self.has_number(ILLEGAL)
+    }
+
+    pub fn is_newline(self) -> bool
+        ensures { λ r. ⌜ r ≡ isNewline self ⌝ }
+    {
+        self.has_number(NEWLINE)
+    }
+
+    pub fn is_comment(self) -> bool
+        ensures { λ r. ⌜ r ≡ isComment self ⌝ }
+    {
+        self.has_number(COMMENT)
+    }
+
+    pub fn is_string(self) -> bool
+        ensures { λ r. ⌜ r ≡ isString self ⌝ }
+    {
+        self.has_number(STRING)
+    }
+
+    pub fn is_bytes(self) -> bool
+        ensures { λ r. ⌜ r ≡ isBytes self ⌝ }
+    {
+        self.has_number(BYTES)
     }
 
     // Whether its tokens have no newline, in any text.
     pub fn on_one_line(self) -> bool
         ensures { λ r. ⌜ r ≡ onOneLine self ⌝ }
     {
-        let n = self.number();
-        !((n == 1) | (n == 2) | (n == 3) | (n == 5) | (n == 10))
+        !(self.is_illegal()
+            | self.is_newline()
+            | self.is_comment()
+            | self.is_string()
+            | self.is_bytes())
     }
 }

@@ -1,4 +1,5 @@
-// Token kinds, places in a text, and the numbers of records and reports (token.rs).
+// Token kinds, reasons, places in a text, and the numbers of records and reports (token.rs).
 pub mod kind;
 pub mod layout;
 pub mod place;
+pub mod reason;

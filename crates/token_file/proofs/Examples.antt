@@ -1,23 +1,29 @@
 -- The definitions run on worked examples: three records and their file, and what one changed number makes of them. antt computes both sides.
 -- Assumes nothing.
 use mathlib.Core.Path.{_≡_, refl}
-use mathlib.Core.List.{List, [], _∷_, map}
-use Prim.Native.Nat.{ℕ}
+use mathlib.Core.List.{List, [], _∷_, _++_, map}
+use Prim.Native.Nat.{ℕ, _+_, _*_, _-_}
 use lib.IntN.{ℤ, pos, negsuc}
 use lib.ListN.{drop, set}
 use Rattle.base.specs.Bytes.{sameBytes}
+use Rattle.token.specs.Layout.{recordWidth}
 use Rattle.token_file.specs.Rules.{rowAt, rowsOf, naturalRow, naturalRows, rowOk, rowsOk, rowsNumbers}
 use Rattle.token_file.specs.Format.{little, unlittle, version1, rowWidth, rowBytes, rowsBytes, header, fileOf, fileWidth, bytesRow, bytesRows, fileCount, fileRows, framed}
 use Rattle.token_file.specs.Calls.{recordsOk, writeAnswer, readAnswer}
 use Rattle.token_file.specs.declared.write.Written.the-variants as written
 use Rattle.token_file.specs.declared.read.Loaded.the-variants as loaded
 
--- an Ident at 0..1, an Illegal of reason 18 at 2..300 in column 258, and the Eof; the numbers that no file keeps are arbitrary
+-- a record of these kept numbers; the numbers that no file keeps are arbitrary
+abbrev given : ℕ → ℕ → ℕ → ℕ → ℕ → ℕ → List ℤ
+given k r s e l c = pos k ∷ pos r ∷ pos 7 ∷ pos s ∷ pos e ∷ pos l ∷ pos c ∷ negsuc 0 ∷ negsuc 1 ∷ pos 0 ∷ pos 0 ∷ negsuc 2 ∷ []
+
+-- the record that reading makes of them
+abbrev read : ℕ → ℕ → ℕ → ℕ → ℕ → ℕ → List ℤ
+read k r s e l c = pos k ∷ pos r ∷ pos 0 ∷ pos s ∷ pos e ∷ pos l ∷ pos c ∷ pos 0 ∷ pos 0 ∷ pos 0 ∷ pos 0 ∷ pos 0 ∷ []
+
+-- an Ident at 0..1, an Illegal of reason 18 at 2..300 in column 258, and the Eof
 abbrev three : List ℤ
-three =
-    pos 4 ∷ pos 0 ∷ pos 7 ∷ pos 0 ∷ pos 1 ∷ pos 1 ∷ pos 1 ∷ negsuc 0 ∷ negsuc 1 ∷ pos 0 ∷ pos 0 ∷ negsuc 2
-    ∷ pos 1 ∷ pos 18 ∷ pos 7 ∷ pos 2 ∷ pos 300 ∷ pos 1 ∷ pos 258 ∷ negsuc 0 ∷ negsuc 1 ∷ pos 0 ∷ pos 0 ∷ negsuc 2
-    ∷ pos 0 ∷ pos 0 ∷ pos 7 ∷ pos 300 ∷ pos 300 ∷ pos 2 ∷ pos 1 ∷ negsuc 0 ∷ negsuc 1 ∷ pos 0 ∷ pos 0 ∷ negsuc 2 ∷ []
+three = given 4 0 0 1 1 1 ++ given 1 18 2 300 1 258 ++ given 0 0 300 300 2 1
 
 -- their file
 abbrev bytes : List ℕ
@@ -31,10 +37,7 @@ pub example-file : fileOf version1 (rowsOf 3 three) ≡ bytes
 unfolding fileOf version1 rowsOf rowAt header little rowsBytes rowBytes
 example-file = refl
 
-pub example-rows : rowsNumbers (fileRows version1 bytes)
-    ≡ pos 4 ∷ pos 0 ∷ pos 0 ∷ pos 0 ∷ pos 1 ∷ pos 1 ∷ pos 1 ∷ pos 0 ∷ pos 0 ∷ pos 0 ∷ pos 0 ∷ pos 0
-    ∷ pos 1 ∷ pos 18 ∷ pos 0 ∷ pos 2 ∷ pos 300 ∷ pos 1 ∷ pos 258 ∷ pos 0 ∷ pos 0 ∷ pos 0 ∷ pos 0 ∷ pos 0
-    ∷ pos 0 ∷ pos 0 ∷ pos 0 ∷ pos 300 ∷ pos 300 ∷ pos 2 ∷ pos 1 ∷ pos 0 ∷ pos 0 ∷ pos 0 ∷ pos 0 ∷ pos 0 ∷ []
+pub example-rows : rowsNumbers (fileRows version1 bytes) ≡ read 4 0 0 1 1 1 ++ read 1 18 2 300 1 258 ++ read 0 0 300 300 2 1
 unfolding fileRows version1 fileCount unlittle bytesRows bytesRow rowWidth
 example-rows = refl
 
@@ -47,20 +50,21 @@ example-counts = refl
 -- one number changed: a start below 0, a start before the previous end, reasons 0 and 19 of an Illegal, an Ident that is empty, columns 65,535 and
 -- 65,536, a kind 26, an Eof that is not last, a number that no file keeps
 pub example-changes : map (λ (l : List ℤ). writeAnswer l 3 57)
-    (set three 3 (negsuc 0) ∷ set three 15 (pos 0) ∷ set three 13 (pos 0) ∷ set three 13 (pos 19) ∷ set three 4 (pos 0) ∷ set three 18 (pos 65535)
-    ∷ set three 18 (pos 65536) ∷ set three 0 (pos 26) ∷ set three 0 (pos 0) ∷ set three 2 (pos 9) ∷ [])
+    (set three 3 (negsuc 0) ∷ set three (recordWidth + 3) (pos 0) ∷ set three (recordWidth + 1) (pos 0) ∷ set three (recordWidth + 1) (pos 19)
+    ∷ set three 4 (pos 0) ∷ set three (recordWidth + 6) (pos 65535) ∷ set three (recordWidth + 6) (pos 65536) ∷ set three 0 (pos 26)
+    ∷ set three 0 (pos 0) ∷ set three 2 (pos 9) ∷ [])
     ≡ written.BadRecords ∷ written.BadRecords ∷ written.BadRecords ∷ written.BadRecords ∷ written.BadRecords ∷ written.Bytes 57
     ∷ written.LongColumn ∷ written.BadRecords ∷ written.BadRecords ∷ written.Bytes 57 ∷ []
 unfolding writeAnswer recordsOk rowsOf rowAt naturalRows naturalRow rowsOk rowOk fileWidth rowWidth version1
 example-changes = refl
 
 -- the file with one byte changed: none, the mark, the version, the count, an Illegal's reason 19, a column 0
-pub example-reads : map (λ (l : List ℕ). readAnswer l 36)
+pub example-reads : map (λ (l : List ℕ). readAnswer l (3 * recordWidth))
     (bytes ∷ set bytes 0 80 ∷ set bytes 3 2 ∷ set bytes 5 2 ∷ set bytes 26 19 ∷ set bytes 23 0 ∷ drop 1 bytes ∷ [])
     ≡ loaded.Count 3 ∷ loaded.BadFile ∷ loaded.BadFile ∷ loaded.BadFile ∷ loaded.BadRecords ∷ loaded.BadRecords ∷ loaded.BadFile ∷ []
 unfolding readAnswer framed sameBytes fileRows version1 fileCount unlittle bytesRows bytesRow rowWidth fileWidth rowsOk rowOk
 example-reads = refl
 
-pub example-room : readAnswer bytes 35 ≡ loaded.NoRoom
+pub example-room : readAnswer bytes (3 * recordWidth - 1) ≡ loaded.NoRoom
 unfolding readAnswer framed sameBytes fileRows version1 fileCount unlittle bytesRows bytesRow rowWidth fileWidth rowsOk rowOk
 example-room = refl

@@ -10,8 +10,9 @@ use borrow.Author.Tests.{leb-true, le-leb, eqb-true, eq-eqb}
 use Rattle.base.specs.Bytes.{sameBytes}
 use Rattle.base.proofs.Tests.{and-left, and-right}
 use Rattle.base.proofs.Words.{same-eq, same-refl}
-use Rattle.token_file.specs.Rules.{Row}
-use Rattle.token_file.specs.Format.{Layout, little, numberAt, mark, header, headerWidth, rowsBytes, fileOf, fileWidth, fileCount, framed}
+use Rattle.token_file.specs.Format.{little, numberAt, mark, header, headerWidth, rowsBytes, fileOf, fileWidth, fileCount, framed}
+use Rattle.token_file.specs.declared.row.Row.{Row}
+use Rattle.token_file.specs.declared.layout.Layout.{Layout}
 use Rattle.token_file.proofs.Pieces.{rows-bytes-length}
 
 pub header-length : (y : Layout) (n : ℕ) → length (header y n) ≡ headerWidth

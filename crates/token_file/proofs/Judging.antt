@@ -10,11 +10,15 @@ use lib.ListN.{length, drop}
 use borrow.Author.Tests.{lt-ltb, le-ltb, le-leb, lt-leb}
 use Rattle.base.specs.Choice.{pick}
 use Rattle.base.proofs.Tests.{and-left, and-right, and-false, true-false, and-true, and-assoc}
+use Rattle.token.specs.Kind.{eofNumber}
 use Rattle.token.specs.Layout.{recordWidth}
-use Rattle.token_file.specs.Rules.{Row, magnitude, number, rowAt, rowsOf, naturalRow, naturalRows, rowOk, rowsOk, someAbove}
-use Rattle.token_file.specs.Format.{Layout, rowWidth, fileWidth, bytesRow, bytesRows}
+use Rattle.token.specs.Reason.{reasonOk}
+use Rattle.token_file.specs.Rules.{magnitude, number, rowAt, rowsOf, naturalRow, naturalRows, rowOk, rowsOk, someAbove}
+use Rattle.token_file.specs.Format.{rowWidth, fileWidth, bytesRow, bytesRows}
 use Rattle.token_file.specs.Fits.{lastOk}
 use Rattle.token_file.specs.Calls.{recordsOk}
+use Rattle.token_file.specs.declared.row.Row.{Row}
+use Rattle.token_file.specs.declared.layout.Layout.{Layout}
 use Rattle.token_file.proofs.Rows.{number-next}
 use Rattle.token_file.proofs.Pieces.{rows-turn, natural-turn, bytes-turn, rows-length, bytes-rows-length, width-turn}
 
@@ -23,12 +27,12 @@ use Rattle.token_file.proofs.Pieces.{rows-turn, natural-turn, bytes-tur
 -- the rows that are left keep the rules
 abbrev pub leftOk : ℕ → List Row → Bool
 leftOk prev [] = true
-leftOk prev (r ∷ rs) = (lastOk (suc (length rs)) r && rowOk prev r) && leftOk (r .end) rs
+leftOk prev (r ∷ rs) = (lastOk (suc (length rs)) r && rowOk reasonOk prev r) && leftOk (r .end) rs
 
-pub rows-left : (prev : ℕ) (rs : List Row) → rowsOk prev rs ≡ ltb 0 (length rs) && leftOk prev rs
+pub rows-left : (prev : ℕ) (rs : List Row) → rowsOk reasonOk prev rs ≡ ltb 0 (length rs) && leftOk prev rs
 unfolding rowsOk
 rows-left prev [] = refl
-rows-left prev (r ∷ []) = rw (lt-ltb 0 1 (omega arith), and-true (eqb (r .kind) 0 && rowOk prev r))
+rows-left prev (r ∷ []) = rw (lt-ltb 0 1 (omega arith), and-true (eqb (r .kind) eofNumber && rowOk reasonOk prev r))
 rows-left prev (r ∷ (q ∷ rs)) =
     rw (
       lt-ltb 0 (suc (suc (length rs))) (omega arith),
@@ -36,15 +40,15 @@ rows-left prev (r ∷ (q ∷ rs)) =
       eqb·suc-zero (length rs),
       rows-left (r .end) (q ∷ rs),
       lt-ltb 0 (suc (length rs)) (omega arith),
-      and-assoc (not (eqb (r .kind) 0)) (rowOk prev r) (leftOk (r .end) (q ∷ rs)),
+      and-assoc (not (eqb (r .kind) eofNumber)) (rowOk reasonOk prev r) (leftOk (r .end) (q ∷ rs)),
     )
 
 -- a turn: the first row of those that are left may stand, or not
 module _ (prev left : ℕ) (rs : List Row) {r : Row} {qs : List Row} (e : rs ≡ r ∷ qs) (n : length rs ≡ left) where
-  left-more : lastOk left r && rowOk prev r ≡ true → leftOk prev rs ≡ leftOk (r .end) qs
+  left-more : lastOk left r && rowOk reasonOk prev r ≡ true → leftOk prev rs ≡ leftOk (r .end) qs
   left-more t = let k : suc (length qs) ≡ left = sym (ap length e) ∙ n in rw (e, k, t)
 
-  left-stop : lastOk left r && rowOk prev r ≡ false → leftOk prev rs ≡ false
+  left-stop : lastOk left r && rowOk reasonOk prev r ≡ false → leftOk prev rs ≡ false
   left-stop t = let k : suc (length qs) ≡ left = sym (ap length e) ∙ n in rw (e, k, t)
 
 -- ---- the rules over records
@@ -84,22 +88,22 @@ module _ {l : List ℤ} {count at left prev : ℕ} (w : JudgingRecords l count a
     rest-is : rowsOf left (drop at l) ≡ r ∷ rowsOf (left - 1) (drop (at + recordWidth) l)
     rest-is = rows-turn l at left h ∙ ap (λ (q : Row). q ∷ rowsOf (left - 1) (drop (at + recordWidth) l)) (sym e)
 
-    pub judge-turn : naturalRow (drop at l) && (lastOk left r && rowOk prev r) ≡ true → JudgingRecords l count (at + recordWidth) (left - 1) (r .end)
+    pub judge-turn : naturalRow (drop at l) && (lastOk left r && rowOk reasonOk prev r) ≡ true → JudgingRecords l count (at + recordWidth) (left - 1) (r .end)
     judge-turn t =
         let room = w .room in
-        let n = and-left (naturalRow (drop at l)) (lastOk left r && rowOk prev r) t in
-        let k = and-right (naturalRow (drop at l)) (lastOk left r && rowOk prev r) t in
+        let n = and-left (naturalRow (drop at l)) (lastOk left r && rowOk reasonOk prev r) t in
+        let k = and-right (naturalRow (drop at l)) (lastOk left r && rowOk reasonOk prev r) t in
         let a : naturalRows left (drop at l) ≡ naturalRows (left - 1) (drop (at + recordWidth) l) = rw (natural-turn l at left h, n) in
         let b = left-more prev left (rowsOf left (drop at l)) rest-is (rows-length left (drop at l)) k in
         record { room = omega arith; rest = rw (← a, ← b) (w .rest) }
 
-    pub judge-stop : count * recordWidth ≤ length l → naturalRow (drop at l) && (lastOk left r && rowOk prev r) ≡ false → false ≡ recordsOk l count
+    pub judge-stop : count * recordWidth ≤ length l → naturalRow (drop at l) && (lastOk left r && rowOk reasonOk prev r) ≡ false → false ≡ recordsOk l count
     judge-stop c t = rw (judge-whole l count c) (and-swap (naturalRows count l) (ltb 0 count) (leftOk 0 (rowsOf count l)) (sym (w .rest) ∙ fails))
       where
         fails : keptOk prev left (drop at l) ≡ false
         fails = go (naturalRow (drop at l)) refl t
           where
-            go : (n : Bool) → naturalRow (drop at l) ≡ n → n && (lastOk left r && rowOk prev r) ≡ false → keptOk prev left (drop at l) ≡ false
+            go : (n : Bool) → naturalRow (drop at l) ≡ n → n && (lastOk left r && rowOk reasonOk prev r) ≡ false → keptOk prev left (drop at l) ≡ false
             go true p q = rw (left-stop prev left (rowsOf left (drop at l)) rest-is (rows-length left (drop at l)) q) (and-false (naturalRows left (drop at l)))
             go false p q = rw (natural-turn l at left h, p)
 
@@ -121,7 +125,7 @@ unfolding fileWidth
 rows-start y file count h = record { room = h; rest = refl }
 
 module _ {y : Layout} {file : List ℕ} {count at left prev : ℕ} (w : JudgingRows y file count at left prev) where
-  whole : rowsOk 0 (bytesRows y count (drop 9 file)) ≡ ltb 0 count && leftOk prev (bytesRows y left (drop at file))
+  whole : rowsOk reasonOk 0 (bytesRows y count (drop 9 file)) ≡ ltb 0 count && leftOk prev (bytesRows y left (drop at file))
   whole = rw (rows-left 0 (bytesRows y count (drop 9 file)), bytes-rows-length y count (drop 9 file), w .rest)
 
   -- there is room for one row
@@ -132,17 +136,17 @@ module _ {y : Layout} {file : List ℕ} {count at left prev : ℕ} (w : JudgingR
     row-first : bytesRows y left (drop at file) ≡ r ∷ bytesRows y (left - 1) (drop (at + rowWidth y) file)
     row-first = bytes-turn y file at left h ∙ ap (λ (q : Row). q ∷ bytesRows y (left - 1) (drop (at + rowWidth y) file)) (sym e)
 
-    pub rows-more : lastOk left r && rowOk prev r ≡ true → JudgingRows y file count (at + rowWidth y) (left - 1) (r .end)
+    pub rows-more : lastOk left r && rowOk reasonOk prev r ≡ true → JudgingRows y file count (at + rowWidth y) (left - 1) (r .end)
     rows-more t =
         let b = left-more prev left (bytesRows y left (drop at file)) row-first (bytes-rows-length y left (drop at file)) t in
         record { room = omega (arith, w .room, width-turn (rowWidth y) left h); rest = rw (← b) (w .rest) }
 
-    pub rows-stop : lastOk left r && rowOk prev r ≡ false → false ≡ rowsOk 0 (bytesRows y count (drop 9 file))
+    pub rows-stop : lastOk left r && rowOk reasonOk prev r ≡ false → false ≡ rowsOk reasonOk 0 (bytesRows y count (drop 9 file))
     rows-stop t =
         let b = left-stop prev left (bytesRows y left (drop at file)) row-first (bytes-rows-length y left (drop at file)) t in
         rw (whole, b) (sym (and-false (ltb 0 count)))
 
-  pub rows-end : left ≤ 0 → ltb 0 count ≡ rowsOk 0 (bytesRows y count (drop 9 file))
+  pub rows-end : left ≤ 0 → ltb 0 count ≡ rowsOk reasonOk 0 (bytesRows y count (drop 9 file))
   unfolding bytesRows
   rows-end h =
       let z : left ≡ 0 = omega arith in

@@ -10,8 +10,10 @@ use lib.IntN.{ℤ}
 use lib.ListN.{length, drop, length-append}
 use lib.Seq.{drop-drop}
 use Rattle.token.specs.Layout.{recordWidth}
-use Rattle.token_file.specs.Rules.{Row, rowAt, rowsOf, naturalRow, naturalRows, rowNumbers, rowsNumbers}
-use Rattle.token_file.specs.Format.{Layout, rowWidth, rowBytes, rowsBytes, bytesRow, bytesRows}
+use Rattle.token_file.specs.Rules.{rowAt, rowsOf, naturalRow, naturalRows, rowNumbers, rowsNumbers}
+use Rattle.token_file.specs.Format.{rowWidth, rowBytes, rowsBytes, bytesRow, bytesRows}
+use Rattle.token_file.specs.declared.row.Row.{Row}
+use Rattle.token_file.specs.declared.layout.Layout.{Layout}
 use Rattle.token_file.proofs.Numbers.{length-little}
 
 -- ---- a list that is taken apart in pieces of w elements
@@ -23,11 +25,12 @@ module _ {A B : Type 0} (f : ℕ → List A → B) (g : List A → B → B) (w :
       let e : suc n - 1 ≡ n = omega arith in
       rw e (step n (drop at l) ∙ ap (λ (m : List A). g (drop at l) (f n m)) (drop-drop w at l))
 
-pub rows-turn : (l : List ℤ) (at left : ℕ) → 0 < left → rowsOf left (drop at l) ≡ rowAt (drop at l) ∷ rowsOf (left - 1) (drop (at + 12) l)
+pub rows-turn : (l : List ℤ) (at left : ℕ) → 0 < left → rowsOf left (drop at l) ≡ rowAt (drop at l) ∷ rowsOf (left - 1) (drop (at + recordWidth) l)
 unfolding rowsOf
 rows-turn = turn rowsOf (λ l rs. rowAt l ∷ rs) recordWidth (λ n l. refl)
 
-pub natural-turn : (l : List ℤ) (at left : ℕ) → 0 < left → naturalRows left (drop at l) ≡ naturalRow (drop at l) && naturalRows (left - 1) (drop (at + 12) l)
+pub natural-turn : (l : List ℤ) (at left : ℕ) → 0 < left
+    → naturalRows left (drop at l) ≡ naturalRow (drop at l) && naturalRows (left - 1) (drop (at + recordWidth) l)
 unfolding naturalRows
 natural-turn = turn naturalRows (λ l b. naturalRow l && b) recordWidth (λ n l. refl)
 

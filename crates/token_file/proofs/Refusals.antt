@@ -11,7 +11,8 @@ use lib.IntN.{ℤ}
 use borrow.Author.Tests.{ltb-true, ltb-false, lt-ltb, le-ltb, not-true, not-false}
 use Rattle.base.specs.Choice.{pick}
 use Rattle.token.specs.Layout.{recordWidth}
-use Rattle.token_file.specs.Rules.{rowsOf, rowsOk, someAbove}
+use Rattle.token.specs.Reason.{reasonOk}
+use Rattle.token_file.specs.Rules.{rowsOf, rowsOk, largestColumn, someAbove}
 use Rattle.token_file.specs.Format.{version1, fileWidth, fileCount, fileRows, framed}
 use Rattle.token_file.specs.Calls.{recordsOk, writeAnswer, readAnswer, writtenNumber, loadedNumber}
 use Rattle.token_file.specs.declared.write.Written.the-variants as written
@@ -62,7 +63,7 @@ module _ (records : List ℤ) (count room : ℕ) where
   ok = recordsOk records count
 
   abbrev long : Bool
-  long = someAbove 65535 (rowsOf count records)
+  long = someAbove largestColumn (rowsOf count records)
 
   abbrev short : Bool
   short = ltb room (fileWidth version1 count)
@@ -86,21 +87,22 @@ module _ (records : List ℤ) (count room : ℕ) where
     λ k. write-number ∙ rw k,
   )
 
-  pub write-9 : (writtenNumber (writeAnswer records count room) ≡ 9) ↔ ((recordsOk records count ≡ true) × (someAbove 65535 (rowsOf count records) ≡ true))
+  pub write-9 : (writtenNumber (writeAnswer records count room) ≡ 9)
+      ↔ ((recordsOk records count ≡ true) × (someAbove largestColumn (rowsOf count records) ≡ true))
   write-9 = (
     λ e. let t = at-second apart (not ok) long short (sym write-number ∙ e) in (not-false ok (t .0), t .1),
     λ k. write-number ∙ rw (k .0, k .1),
   )
 
   pub write-10 : (writtenNumber (writeAnswer records count room) ≡ 10)
-      ↔ ((recordsOk records count ≡ true) × (someAbove 65535 (rowsOf count records) ≡ false) × (room < fileWidth version1 count))
+      ↔ ((recordsOk records count ≡ true) × (someAbove largestColumn (rowsOf count records) ≡ false) × (room < fileWidth version1 count))
   write-10 = (
     λ e. let t = at-third apart (not ok) long short (sym write-number ∙ e) in (not-false ok (t .0), t .1, ltb-true room (fileWidth version1 count) (t .2)),
     λ k. write-number ∙ rw (k .0, k .1, lt-ltb room (fileWidth version1 count) (k .2)),
   )
 
   pub write-0 : (writtenNumber (writeAnswer records count room) ≡ 0)
-      ↔ ((recordsOk records count ≡ true) × (someAbove 65535 (rowsOf count records) ≡ false) × (fileWidth version1 count ≤ room))
+      ↔ ((recordsOk records count ≡ true) × (someAbove largestColumn (rowsOf count records) ≡ false) × (fileWidth version1 count ≤ room))
   write-0 = (
     λ e. let t = at-none apart (not ok) long short (sym write-number ∙ e) in (not-false ok (t .0), t .1, ltb-false room (fileWidth version1 count) (t .2)),
     λ k. write-number ∙ rw (k .0, k .1, le-ltb room (fileWidth version1 count) (k .2)),
@@ -113,7 +115,7 @@ module _ (file : List ℕ) (room : ℕ) where
   right = framed version1 file
 
   abbrev kept : Bool
-  kept = rowsOk 0 (fileRows version1 file)
+  kept = rowsOk reasonOk 0 (fileRows version1 file)
 
   abbrev narrow : Bool
   narrow = ltb room (fileCount file * recordWidth)
@@ -137,21 +139,21 @@ module _ (file : List ℕ) (room : ℕ) where
     λ k. read-number ∙ rw k,
   )
 
-  pub read-8 : (loadedNumber (readAnswer file room) ≡ 8) ↔ ((framed version1 file ≡ true) × (rowsOk 0 (fileRows version1 file) ≡ false))
+  pub read-8 : (loadedNumber (readAnswer file room) ≡ 8) ↔ ((framed version1 file ≡ true) × (rowsOk reasonOk 0 (fileRows version1 file) ≡ false))
   read-8 = (
     λ e. let t = at-second apart-read (not right) (not kept) narrow (sym read-number ∙ e) in (not-false right (t .0), not-true kept (t .1)),
     λ k. read-number ∙ rw (k .0, k .1),
   )
 
   pub read-4 : (loadedNumber (readAnswer file room) ≡ 4)
-      ↔ ((framed version1 file ≡ true) × (rowsOk 0 (fileRows version1 file) ≡ true) × (room < fileCount file * recordWidth))
+      ↔ ((framed version1 file ≡ true) × (rowsOk reasonOk 0 (fileRows version1 file) ≡ true) × (room < fileCount file * recordWidth))
   read-4 = (
     λ e. let t = at-third apart-read (not right) (not kept) narrow (sym read-number ∙ e) in (not-false right (t .0), not-false kept (t .1), ltb-true room (fileCount file * recordWidth) (t .2)),
     λ k. read-number ∙ rw (k .0, k .1, lt-ltb room (fileCount file * recordWidth) (k .2)),
   )
 
   pub read-0 : (loadedNumber (readAnswer file room) ≡ 0)
-      ↔ ((framed version1 file ≡ true) × (rowsOk 0 (fileRows version1 file) ≡ true) × (fileCount file * recordWidth ≤ room))
+      ↔ ((framed version1 file ≡ true) × (rowsOk reasonOk 0 (fileRows version1 file) ≡ true) × (fileCount file * recordWidth ≤ room))
   read-0 = (
     λ e. let t = at-none apart-read (not right) (not kept) narrow (sym read-number ∙ e) in (not-false right (t .0), not-false kept (t .1), ltb-false room (fileCount file * recordWidth) (t .2)),
     λ k. read-number ∙ rw (k .0, k .1, le-ltb room (fileCount file * recordWidth) (k .2)),

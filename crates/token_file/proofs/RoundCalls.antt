@@ -13,10 +13,12 @@ use borrow.Author.Tests.{ltb-false, le-ltb, le-leb}
 use Rattle.base.specs.Choice.{pick}
 use Rattle.base.specs.Buffers.{overlay}
 use Rattle.token.specs.Layout.{recordWidth}
-use Rattle.token_file.specs.Rules.{Row, rowsOf, naturalRows, rowsNumbers, rowsOk, someAbove, RowsRules}
+use Rattle.token.specs.Reason.{reasonOk}
+use Rattle.token_file.specs.Rules.{rowsOf, naturalRows, rowsNumbers, rowsOk, largestColumn, someAbove, RowsRules}
 use Rattle.token_file.specs.Format.{version1, fileOf, fileWidth, fileCount, fileRows, framed}
 use Rattle.token_file.specs.Fits.{Bytes}
 use Rattle.token_file.specs.Calls.{recordsOk, writeAnswer, readAnswer, WritesFile, ReadsFile}
+use Rattle.token_file.specs.declared.row.Row.{Row}
 use Rattle.token_file.specs.declared.write.Written.{Written}
 use Rattle.token_file.specs.declared.write.Written.the-variants as written
 use Rattle.token_file.specs.declared.read.Loaded.{Loaded}
@@ -25,22 +27,23 @@ use Rattle.token_file.proofs.Pieces.{rows-length, numbers-length, bytes
 use Rattle.token_file.proofs.Frames.{framed-plain, file-length}
 use Rattle.token_file.proofs.RulesPlain.{rows-test, records-plain, count-small}
 use Rattle.token_file.proofs.RoundRows.{rows-fit, kept-back, natural-back}
-use Rattle.token_file.proofs.RoundFiles.{count-back, file-framed1, file-rows1, file-of-rows, columns-fit}
+use Rattle.token_file.proofs.RoundFiles.{count-back, file-framed1, reason-below, file-rows1, file-of-rows, columns-fit}
 use Rattle.token_file.proofs.Numbers.{bytes-drop}
 
 -- ---- what an accepted call says
 
 pub record Accepted (records : List ℤ) (count room n : ℕ) : Type 0 where
   pub rules : recordsOk records count ≡ true
-  pub columns : someAbove 65535 (rowsOf count records) ≡ false
+  pub columns : someAbove largestColumn (rowsOf count records) ≡ false
   pub width : n ≡ fileWidth version1 count
   pub inside : n ≤ room
 
 pub write-accepted : (records : List ℤ) (count room n : ℕ) → written.Bytes n ≡ writeAnswer records count room → Accepted records count room n
 unfolding writeAnswer
-write-accepted records count room n = go (recordsOk records count) (someAbove 65535 (rowsOf count records)) (ltb room (fileWidth version1 count)) refl refl refl
+write-accepted records count room n =
+    go (recordsOk records count) (someAbove largestColumn (rowsOf count records)) (ltb room (fileWidth version1 count)) refl refl refl
   where
-    go : (a b d : Bool) → recordsOk records count ≡ a → someAbove 65535 (rowsOf count records) ≡ b → ltb room (fileWidth version1 count) ≡ d
+    go : (a b d : Bool) → recordsOk records count ≡ a → someAbove largestColumn (rowsOf count records) ≡ b → ltb room (fileWidth version1 count) ≡ d
         → written.Bytes n ≡ pick a (pick b written.LongColumn (pick d written.NoRoom (written.Bytes (fileWidth version1 count)))) written.BadRecords → Accepted records count room n
     go false b d p q s e = let z : _≡_ {A = ℕ} 0 1 = cc in absurd (omega arith)
     go true true d p q s e = let z : _≡_ {A = ℕ} 0 1 = cc in absurd (omega arith)
@@ -52,15 +55,15 @@ write-accepted records count room n = go (recordsOk records count) (someAbove 65
 
 pub record Taken (file : List ℕ) (room n : ℕ) : Type 0 where
   pub frame : framed version1 file ≡ true
-  pub rules : rowsOk 0 (fileRows version1 file) ≡ true
+  pub rules : rowsOk reasonOk 0 (fileRows version1 file) ≡ true
   pub count : n ≡ fileCount file
   pub inside : n * recordWidth ≤ room
 
 pub read-accepted : (file : List ℕ) (room n : ℕ) → loaded.Count n ≡ readAnswer file room → Taken file room n
 unfolding readAnswer
-read-accepted file room n = go (framed version1 file) (rowsOk 0 (fileRows version1 file)) (ltb room (fileCount file * recordWidth)) refl refl refl
+read-accepted file room n = go (framed version1 file) (rowsOk reasonOk 0 (fileRows version1 file)) (ltb room (fileCount file * recordWidth)) refl refl refl
   where
-    go : (a b d : Bool) → framed version1 file ≡ a → rowsOk 0 (fileRows version1 file) ≡ b → ltb room (fileCount file * recordWidth) ≡ d
+    go : (a b d : Bool) → framed version1 file ≡ a → rowsOk reasonOk 0 (fileRows version1 file) ≡ b → ltb room (fileCount file * recordWidth) ≡ d
         → loaded.Count n ≡ pick a (pick b (pick d loaded.NoRoom (loaded.Count (fileCount file))) loaded.BadRecords) loaded.BadFile → Taken file room n
     go false b d p q s e = let z : _≡_ {A = ℕ} 0 1 = cc in absurd (omega arith)
     go true false d p q s e = let z : _≡_ {A = ℕ} 0 1 = cc in absurd (omega arith)
@@ -73,10 +76,10 @@ read-accepted file room n = go (framed version1 file) (rowsOk 0 (fileRows versio
 -- ---- reading what was written
 
 module _ (records : List ℤ) (count : ℕ) where
-  kept-rules : recordsOk records count ≡ true → RowsRules 0 (rowsOf count records)
+  kept-rules : recordsOk records count ≡ true → RowsRules reasonOk 0 (rowsOf count records)
   kept-rules k = records-plain records count k .rows
 
-  pub read-back : recordsOk records count ≡ true → someAbove 65535 (rowsOf count records) ≡ false → (room : ℕ) → count * recordWidth ≤ room
+  pub read-back : recordsOk records count ≡ true → someAbove largestColumn (rowsOf count records) ≡ false → (room : ℕ) → count * recordWidth ≤ room
       → readAnswer (fileOf version1 (rowsOf count records)) room ≡ loaded.Count count
   unfolding readAnswer
   read-back k s room h =
@@ -84,7 +87,7 @@ module _ (records : List ℤ) (count : ℕ) where
       let w = kept-rules k in
       let m : length rs ≡ count = rows-length count records in
       let c : fileCount (fileOf version1 rs) ≡ count = count-back version1 rs (omega (arith, count-small w)) ∙ m in
-      rw (file-framed1 w s, file-rows1 w s, rows-test w, c, le-ltb room (count * recordWidth) h)
+      rw (file-framed1 w, file-rows1 reason-below w s, rows-test reasonOk w, c, le-ltb room (count * recordWidth) h)
 
 -- the six kept numbers come back, with 0 for the others, and the rest of the buffer is untouched
 pub reading-written : (records : List ℤ) (count : ℕ) (out out′ : List ℕ) (r : Written) (n : ℕ) → WritesFile records count out r out′ → r ≡ written.Bytes n
@@ -98,11 +101,11 @@ reading-written records count out out′ r n w e tokens tokens′ q v h =
     let f : take n out′ ≡ fileOf version1 rs = rw o (take-at (fileOf version1 rs) (drop (length (fileOf version1 rs)) out) n l) in
     let g : q ≡ loaded.Count count = v .answer ∙ rw f (read-back records count (a .rules) (a .columns) (length tokens) h) in
     let b : tokens′ ≡ overlay (rowsNumbers (fileRows version1 (take n out′))) tokens = rw g at (v .buffer) in
-    (g, b ∙ rw (f, file-rows1 (kept-rules records count (a .rules)) (a .columns)))
+    (g, b ∙ rw (f, file-rows1 reason-below (kept-rules records count (a .rules)) (a .columns)))
 
 -- ---- writing what was read
 
-module _ (file : List ℕ) (b : Bytes file) (f : framed version1 file ≡ true) (k : rowsOk 0 (fileRows version1 file) ≡ true) where
+module _ (file : List ℕ) (b : Bytes file) (f : framed version1 file ≡ true) (k : rowsOk reasonOk 0 (fileRows version1 file) ≡ true) where
   abbrev rs : List Row
   rs = fileRows version1 file
 
@@ -110,7 +113,7 @@ module _ (file : List ℕ) (b : Bytes file) (f : framed version1 file ≡ true) 
   unfolding fileRows
   rs-length = bytes-rows-length version1 (fileCount file) (drop 9 file)
 
-  rs-short : someAbove 65535 rs ≡ false
+  rs-short : someAbove largestColumn rs ≡ false
   unfolding fileRows
   rs-short = columns-fit rs (rows-fit version1 (fileCount file) (drop 9 file) (bytes-drop 9 file b))
 

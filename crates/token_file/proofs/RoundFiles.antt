@@ -11,9 +11,14 @@ use lib.Seq.{drop-at, take-add, take-all}
 use borrow.Author.Tests.{ltb-false, le-ltb, eqb-true, eqb-false}
 use Rattle.base.specs.Choice.{pick}
 use Rattle.base.proofs.Tests.{true-false}
-use Rattle.token_file.specs.Rules.{Row, RowRules, RowsRules, someAbove}
-use Rattle.token_file.specs.Format.{Layout, version1, little, numberAt, mark, header, headerWidth, rowWidth, rowsBytes, fileOf, fileWidth, fileCount, fileRows, framed}
+use Rattle.token.specs.Kind.{eofNumber, illegalNumber}
+use Rattle.token.specs.Reason.{reasonOk}
+use Rattle.token.proofs.Reasons.{reason-plain}
+use Rattle.token_file.specs.Rules.{RowRules, RowsRules, largestColumn, someAbove}
+use Rattle.token_file.specs.Format.{version1, little, numberAt, mark, header, headerWidth, rowWidth, rowsBytes, fileOf, fileWidth, fileCount, fileRows, framed}
 use Rattle.token_file.specs.Fits.{Bytes, RowFits, RowsFit}
+use Rattle.token_file.specs.declared.row.Row.{Row}
+use Rattle.token_file.specs.declared.layout.Layout.{Layout}
 use Rattle.token_file.proofs.Numbers.{bytes-drop, unlittle-little}
 use Rattle.token_file.proofs.Pieces.{bytes-rows-length}
 use Rattle.token_file.proofs.Frames.{header-length, file-length, Framed, framed-test}
@@ -96,34 +101,12 @@ module _ (y : Layout) (file : List ℕ) (b : Bytes file) (f : Framed y file) whe
 
 -- ---- version 1
 
--- rows that keep the rules, with columns that are not too long, have room in version 1
-below-end : (r : Row) {prev : ℕ} → RowRules prev r → r .start ≤ r .end
-below-end r h = go (eqb (r .kind) 0) refl
+below-end : {ok : ℕ → ℕ → Bool} {prev : ℕ} (r : Row) → RowRules ok prev r → r .start ≤ r .end
+below-end r h = go (eqb (r .kind) eofNumber) refl
   where
-    go : (b : Bool) → eqb (r .kind) 0 ≡ b → r .start ≤ r .end
-    go true e = omega (arith, h .span-eof (eqb-true (r .kind) 0 e))
-    go false e = omega (arith, h .span-other (eqb-false (r .kind) 0 e))
-
-reason-small : (r : Row) {prev : ℕ} → RowRules prev r → r .reason ≤ 18
-reason-small r h = go (eqb (r .kind) 1) refl
-  where
-    go : (b : Bool) → eqb (r .kind) 1 ≡ b → r .reason ≤ 18
-    go true e = h .reason-illegal (eqb-true (r .kind) 1 e) .1
-    go false e = omega (arith, h .reason-other (eqb-false (r .kind) 1 e))
-
-row-fits1 : (r : Row) {prev : ℕ} → RowRules prev r → r .column ≤ 65535 → RowFits version1 r
-unfolding version1
-row-fits1 r h s =
-    let e = h .end in
-    let b = below-end r h in
-    record {
-      kind = omega (arith, h .kind);
-      reason = omega (arith, reason-small r h);
-      start = omega arith;
-      end = omega arith;
-      line = omega (arith, h .line .1);
-      column = omega arith;
-    }
+    go : (b : Bool) → eqb (r .kind) eofNumber ≡ b → r .start ≤ r .end
+    go true e = omega (arith, h .span-eof (eqb-true (r .kind) eofNumber e))
+    go false e = omega (arith, h .span-other (eqb-false (r .kind) eofNumber e))
 
 -- no column is above the bound: the first is not, nor is another
 columns-first : (bound : ℕ) (r : Row) (rs : List Row) → someAbove bound (r ∷ rs) ≡ false → (r .column ≤ bound) × (someAbove bound rs ≡ false)
@@ -133,31 +116,58 @@ columns-first bound r rs = go (ltb bound (r .column)) refl
     go true e t = true-false true refl t
     go false e t = (ltb-false bound (r .column) e, t)
 
-pub rows-fit1 : {prev : ℕ} {rs : List Row} → RowsRules prev rs → someAbove 65535 rs ≡ false → RowsFit version1 rs
-rows-fit1 (RowsRules.last {r = r} k h) s = RowsFit.some (row-fits1 r h (columns-first 65535 r [] s .0)) RowsFit.none
-rows-fit1 (RowsRules.more {r = r} {q = q} {rs = rs} k h w) s =
-    let c = columns-first 65535 r (q ∷ rs) s in
-    RowsFit.some (row-fits1 r h (c .0)) (rows-fit1 w (c .1))
-
-column-short : (r : Row) → RowFits version1 r → r .column ≤ 65535
+column-short : (r : Row) → RowFits version1 r → r .column ≤ largestColumn
 unfolding version1
 column-short r f = omega (arith, f .column)
 
 -- rows with room in version 1 have no long column
-pub columns-fit : (rs : List Row) → RowsFit version1 rs → someAbove 65535 rs ≡ false
+pub columns-fit : (rs : List Row) → RowsFit version1 rs → someAbove largestColumn rs ≡ false
 columns-fit [] h = refl
-columns-fit (r ∷ rs) (RowsFit.some f g) = rw (le-ltb 65535 (r .column) (column-short r f)) (columns-fit rs g)
+columns-fit (r ∷ rs) (RowsFit.some f g) = rw (le-ltb largestColumn (r .column) (column-short r f)) (columns-fit rs g)
 
-module _ {rs : List Row} (w : RowsRules 0 rs) (s : someAbove 65535 rs ≡ false) where
-  pub file-framed1 : framed version1 (fileOf version1 rs) ≡ true
+-- the file of rows that keep the rules has a right frame
+pub file-framed1 : {ok : ℕ → ℕ → Bool} {rs : List Row} → RowsRules ok 0 rs → framed version1 (fileOf version1 rs) ≡ true
+unfolding version1
+file-framed1 {rs = rs} w = framed-back version1 rs (omega (arith, count-small w)) (omega arith)
+
+-- what the test of kind and reason lets pass has room in the reason's byte
+module _ {ok : ℕ → ℕ → Bool} (small : (k r : ℕ) → ok k r ≡ true → r < 256) where
+  row-fits1 : {prev : ℕ} (r : Row) → RowRules ok prev r → r .column ≤ largestColumn → RowFits version1 r
   unfolding version1
-  file-framed1 = framed-back version1 rs (omega (arith, count-small w)) (omega arith)
+  row-fits1 r h s =
+      let e = h .end in
+      let b = below-end r h in
+      record {
+        kind = omega (arith, h .kind);
+        reason = omega (arith, small (r .kind) (r .reason) (h .reason));
+        start = omega arith;
+        end = omega arith;
+        line = omega (arith, h .line .1);
+        column = omega arith;
+      }
 
-  pub file-rows1 : fileRows version1 (fileOf version1 rs) ≡ rs
-  file-rows1 = rows-of-file version1 rs (omega (arith, count-small w)) (rows-fit1 w s)
+  -- then rows that keep the rules, with columns that are not too long, have room in version 1
+  pub rows-fit1 : {prev : ℕ} {rs : List Row} → RowsRules ok prev rs → someAbove largestColumn rs ≡ false → RowsFit version1 rs
+  rows-fit1 (RowsRules.last {r = r} k h) s = RowsFit.some (row-fits1 r h (columns-first largestColumn r [] s .0)) RowsFit.none
+  rows-fit1 (RowsRules.more {r = r} {q = q} {rs = rs} k h w) s =
+      let c = columns-first largestColumn r (q ∷ rs) s in
+      RowsFit.some (row-fits1 r h (c .0)) (rows-fit1 w (c .1))
+
+  -- and come back from their file
+  pub file-rows1 : {rs : List Row} → RowsRules ok 0 rs → someAbove largestColumn rs ≡ false → fileRows version1 (fileOf version1 rs) ≡ rs
+  file-rows1 {rs} w s = rows-of-file version1 rs (omega (arith, count-small w)) (rows-fit1 w s)
+
+-- ---- version 1, with the test of kind and reason that both calls make
+
+pub reason-below : (k r : ℕ) → reasonOk k r ≡ true → r < 256
+reason-below k r t = go (eqb k illegalNumber) refl
+  where
+    go : (b : Bool) → eqb k illegalNumber ≡ b → r < 256
+    go true e = omega (arith, reason-plain k r t .illegal (eqb-true k illegalNumber e) .1)
+    go false e = omega (arith, reason-plain k r t .other (eqb-false k illegalNumber e))
 
 -- two lists of rows that keep the rules, with no long column, and the same file: they are equal
-pub file-injective1 : {rs qs : List Row} → RowsRules 0 rs → someAbove 65535 rs ≡ false → RowsRules 0 qs → someAbove 65535 qs ≡ false
-    → fileOf version1 rs ≡ fileOf version1 qs → rs ≡ qs
+pub file-injective1 : {rs qs : List Row} → RowsRules reasonOk 0 rs → someAbove largestColumn rs ≡ false
+    → RowsRules reasonOk 0 qs → someAbove largestColumn qs ≡ false → fileOf version1 rs ≡ fileOf version1 qs → rs ≡ qs
 file-injective1 {rs} {qs} w s v t =
-    file-injective version1 rs qs (omega (arith, count-small w)) (omega (arith, count-small v)) (rows-fit1 w s) (rows-fit1 v t)
+    file-injective version1 rs qs (omega (arith, count-small w)) (omega (arith, count-small v)) (rows-fit1 reason-below w s) (rows-fit1 reason-below v t)

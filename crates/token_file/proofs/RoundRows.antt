@@ -9,9 +9,11 @@ use native.Mathlib.Omega.{arith}
 use lib.IntN.{ℤ}
 use lib.ListN.{length, take, drop, length-take, length-drop}
 use lib.Seq.{take-at, drop-at, drop-drop, take-add, length-take-le}
-use Rattle.token_file.specs.Rules.{Row, rowAt, rowsOf, naturalRow, naturalRows, rowsNumbers}
-use Rattle.token_file.specs.Format.{Layout, little, numberAt, rowWidth, rowBytes, rowsBytes, bytesRow, bytesRows}
+use Rattle.token_file.specs.Rules.{rowAt, rowsOf, naturalRow, naturalRows, rowsNumbers}
+use Rattle.token_file.specs.Format.{little, numberAt, rowWidth, rowBytes, rowsBytes, bytesRow, bytesRows}
 use Rattle.token_file.specs.Fits.{Bytes, RowFits, RowsFit}
+use Rattle.token_file.specs.declared.row.Row.{Row}
+use Rattle.token_file.specs.declared.layout.Layout.{Layout}
 use Rattle.token_file.proofs.Numbers.{bytes-drop, bytes-take, length-little, unlittle-little, little-unlittle, unlittle-lt}
 use Rattle.token_file.proofs.Pieces.{row-length}
 

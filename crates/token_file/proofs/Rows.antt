@@ -11,9 +11,11 @@ use lib.ListN.{length, getD, take, drop}
 use lib.Seq.{sets, drop-drop, getD-drop}
 use borrow.Author.Tests.{le-leb, lt-leb}
 use Rattle.base.specs.Bytes.{sameBytes}
-use Rattle.token_file.specs.Rules.{Row, natural, magnitude, number, rowAt, naturalRow}
-use Rattle.token_file.specs.Format.{Layout, little, numberAt, mark, rowWidth, rowBytes, header, bytesRow, fileWidth, fileCount, framed}
+use Rattle.token_file.specs.Rules.{natural, magnitude, number, rowAt, naturalRow}
+use Rattle.token_file.specs.Format.{little, numberAt, mark, rowWidth, rowBytes, header, bytesRow, fileWidth, fileCount, framed}
 use Rattle.token_file.specs.Fits.{Narrow, RowRead}
+use Rattle.token_file.specs.declared.row.Row.{Row}
+use Rattle.token_file.specs.declared.layout.Layout.{Layout}
 use Rattle.token_file.proofs.Numbers.{length-little, below-63}
 use Rattle.base.proofs.Tests.{and-true}
 use Rattle.base.proofs.Stores.{Stored, stored-then}

@@ -8,8 +8,10 @@ use lib.ListN.{length, drop}
 use lib.Seq.{sets, length-sets}
 use Rattle.base.proofs.Stores.{sets-append}
 use Rattle.token.specs.Layout.{recordWidth}
-use Rattle.token_file.specs.Rules.{Row, rowAt, rowsOf, rowNumbers, rowsNumbers}
-use Rattle.token_file.specs.Format.{Layout, rowWidth, rowBytes, rowsBytes, fileWidth, bytesRow, bytesRows}
+use Rattle.token_file.specs.Rules.{rowAt, rowsOf, rowNumbers, rowsNumbers}
+use Rattle.token_file.specs.Format.{rowWidth, rowBytes, rowsBytes, fileWidth, bytesRow, bytesRows}
+use Rattle.token_file.specs.declared.row.Row.{Row}
+use Rattle.token_file.specs.declared.layout.Layout.{Layout}
 use Rattle.token_file.proofs.Pieces.{rows-turn, bytes-turn, row-length, width-turn}
 
 -- ---- rows written

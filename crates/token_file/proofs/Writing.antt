@@ -10,10 +10,11 @@ use lib.Seq.{sets}
 use borrow.Author.Tests.{lt-ltb, le-ltb}
 use Rattle.base.proofs.Stores.{sets-append, overlaid}
 use Rattle.token.specs.Layout.{recordWidth}
-use Rattle.token_file.specs.Rules.{rowsOf, someAbove}
-use Rattle.token_file.specs.Format.{Layout, version1, rowWidth, fileWidth, header, headerWidth, rowsBytes, fileOf}
+use Rattle.token_file.specs.Rules.{rowsOf, largestColumn, someAbove}
+use Rattle.token_file.specs.Format.{version1, rowWidth, fileWidth, header, headerWidth, rowsBytes, fileOf}
 use Rattle.token_file.specs.Fits.{Narrow}
 use Rattle.token_file.specs.Calls.{recordsOk, writeAnswer, WritesFile}
+use Rattle.token_file.specs.declared.layout.Layout.{Layout}
 use Rattle.token_file.specs.declared.write.Written.the-variants as written
 use Rattle.token_file.proofs.RulesPlain.{records-plain}
 use Rattle.token_file.proofs.Frames.{header-length, file-length}
@@ -40,11 +41,11 @@ module _ (records : List ℤ) (count : ℕ) (out : List ℕ) where
     pub in-slice : count * recordWidth ≤ length records
     in-slice = records-plain records count k .slice
 
-    pub write-long : someAbove 65535 (rowsOf count records) ≡ true → WritesFile records count out written.LongColumn out
+    pub write-long : someAbove largestColumn (rowsOf count records) ≡ true → WritesFile records count out written.LongColumn out
     unfolding writeAnswer
     write-long s = record { answer = rw (k, s); buffer = refl }
 
-    module _ (s : someAbove 65535 (rowsOf count records) ≡ false) (y : Layout) (e : y ≡ version1) (n : ℕ) (w : n ≡ fileWidth y count) where
+    module _ (s : someAbove largestColumn (rowsOf count records) ≡ false) (y : Layout) (e : y ≡ version1) (n : ℕ) (w : n ≡ fileWidth y count) where
       pub write-no-room : length out < n → WritesFile records count out written.NoRoom out
       unfolding writeAnswer
       write-no-room h =

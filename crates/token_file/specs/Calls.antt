@@ -9,7 +9,8 @@ use lib.ListN.{length}
 use Rattle.base.specs.Choice.{pick}
 use Rattle.base.specs.Buffers.{after}
 use Rattle.token.specs.Layout.{recordWidth}
-use Rattle.token_file.specs.Rules.{rowsOf, naturalRows, rowsNumbers, rowsOk, someAbove}
+use Rattle.token.specs.Reason.{reasonOk}
+use Rattle.token_file.specs.Rules.{rowsOf, naturalRows, rowsNumbers, rowsOk, largestColumn, someAbove}
 use Rattle.token_file.specs.Format.{version1, fileOf, fileWidth, fileCount, fileRows, framed}
 use Rattle.token_file.specs.declared.write.Written.{Written}
 use Rattle.token_file.specs.declared.write.Written.the-variants as written
@@ -18,13 +19,13 @@ use Rattle.token_file.specs.declared.read.Loaded.the-variants as loaded
 
 -- the slice holds so many records, and they keep the rules: "The writer gets a slice and a count; too short a slice is 8"
 unfoldable pub recordsOk : List ℤ → ℕ → Bool
-recordsOk records count = leb (count * recordWidth) (length records) && (naturalRows count records && rowsOk 0 (rowsOf count records))
+recordsOk records count = leb (count * recordWidth) (length records) && (naturalRows count records && rowsOk reasonOk 0 (rowsOf count records))
 
 -- "the file writer 8, 9, 10"
 unfoldable pub writeAnswer : List ℤ → ℕ → ℕ → Written
 writeAnswer records count room =
     pick (recordsOk records count)
-    (pick (someAbove 65535 (rowsOf count records)) written.LongColumn
+    (pick (someAbove largestColumn (rowsOf count records)) written.LongColumn
     (pick (ltb room (fileWidth version1 count)) written.NoRoom (written.Bytes (fileWidth version1 count))))
     written.BadRecords
 
@@ -32,7 +33,7 @@ writeAnswer records count room =
 unfoldable pub readAnswer : List ℕ → ℕ → Loaded
 readAnswer file room =
     pick (framed version1 file)
-    (pick (rowsOk 0 (fileRows version1 file))
+    (pick (rowsOk reasonOk 0 (fileRows version1 file))
     (pick (ltb room (fileCount file * recordWidth)) loaded.NoRoom (loaded.Count (fileCount file)))
     loaded.BadRecords)
     loaded.BadFile

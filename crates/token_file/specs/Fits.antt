@@ -1,4 +1,4 @@
--- Rows whose numbers have room in a layout, layouts whose numbers a machine word holds, and the code's structs as the definitions' records.
+-- Rows whose numbers have room in a layout, layouts whose numbers a machine word holds, and what the code's parts read and test.
 use mathlib.Core.Path.{_≡_}
 use mathlib.Core.Bool.{Bool, not}
 use mathlib.Core.List.{List, [], _∷_}
@@ -6,11 +6,11 @@ use Prim.Native.Nat.{ℕ, _≤_, _<_, _^_}
 use lib.Dec.{eqb}
 use lib.ListN.{drop, getD}
 use Rattle.base.specs.Choice.{pick}
+use Rattle.token.specs.Kind.{eofNumber}
 use Rattle.token.specs.Layout.{Fits63}
-use Rattle.token_file.specs.Rules.{Row}
-use Rattle.token_file.specs.Format.{Layout, bytesRow}
-use Rattle.token_file.specs.declared.row.Row as code-row
-use Rattle.token_file.specs.declared.layout.Layout as code-layout
+use Rattle.token_file.specs.Format.{bytesRow}
+use Rattle.token_file.specs.declared.row.Row.{Row}
+use Rattle.token_file.specs.declared.layout.Layout.{Layout}
 
 -- every element is a byte
 abbrev pub Bytes : List ℕ → Type 0
@@ -50,15 +50,7 @@ pub record RowSmall (r : Row) : Type 0 where
 
 -- "kind 0 last and only there", for a row at which so many are left, itself among them
 abbrev pub lastOk : ℕ → Row → Bool
-lastOk left r = pick (eqb left 1) (eqb (r .kind) 0) (not (eqb (r .kind) 0))
-
--- the code's structs have the definitions' fields
-abbrev pub asRow : code-row.Row → Row
-asRow r = record { kind = r .kind; reason = r .reason; start = r .start; end = r .end; line = r .line; column = r .column }
-
-abbrev pub asLayout : code-layout.Layout → Layout
-asLayout y =
-    record { version = y .version; kind = y .kind; reason = y .reason; start = y .start; end = y .end; line = y .line; column = y .column }
+lastOk left r = pick (eqb left 1) (eqb (r .kind) eofNumber) (not (eqb (r .kind) eofNumber))
 
 -- what reading a row from bytes gives
 pub record RowRead (y : Layout) (file : List ℕ) (at : ℕ) (r : Row) : Type 0 where

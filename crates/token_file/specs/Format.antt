@@ -6,7 +6,8 @@ use Prim.Native.Nat.{ℕ, zero, suc, _+_, _*_, _/_, _%_}
 use lib.Dec.{leb, eqb}
 use lib.ListN.{length, take, drop}
 use Rattle.base.specs.Bytes.{sameBytes}
-use Rattle.token_file.specs.Rules.{Row}
+use Rattle.token_file.specs.declared.row.Row.{Row}
+use Rattle.token_file.specs.declared.layout.Layout.{Layout}
 
 -- ---- numbers as bytes
 
@@ -22,16 +23,7 @@ unlittle (b ∷ bs) = b + 256 * unlittle bs
 
 -- ---- the layout of a version: one row of this table for each
 
--- how many bytes each kept number of a token has, in the file's order: kind, reason, start, end, line, column
-pub record Layout : Type 0 where
-  pub version : ℕ
-  pub kind : ℕ
-  pub reason : ℕ
-  pub start : ℕ
-  pub end : ℕ
-  pub line : ℕ
-  pub column : ℕ
-
+-- version 1, in bytes; a `Layout` of the code has the version and how many bytes each number of a `Row` has: kind, reason, start, end, line, column
 unfoldable pub version1 : Layout
 version1 = record { version = 1; kind = 1; reason = 1; start = 4; end = 4; line = 4; column = 2 }
 

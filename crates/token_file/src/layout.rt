@@ -2,7 +2,7 @@
 ghost use mathlib.Core.Path.{_≡_};
 ghost use Prim.Native.Nat.{_<_, _^_};
 ghost use Rattle.token_file.specs.Format.{version1, rowWidth, fileWidth};
-ghost use Rattle.token_file.specs.Fits.{Narrow, asLayout};
+ghost use Rattle.token_file.specs.Fits.{Narrow};
 
 // Mark, version and count.
 pub const HEADER_WIDTH: usize = 9;
@@ -20,7 +20,7 @@ pub struct Layout {
 
 impl Layout {
     pub fn version1() -> Self
-        ensures { λ r. ⌜ asLayout r ≡ version1 ⌝ }
+        ensures { λ r. ⌜ r ≡ version1 ⌝ }
     {
         Self {
             version: 1,
@@ -35,16 +35,16 @@ impl Layout {
 
     // How many bytes a token has.
     pub fn row_width(self) -> usize
-        requires { ⌜ Narrow (asLayout self) ⌝ }
-        ensures { λ r. ⌜ r ≡ rowWidth (asLayout self) ⌝ }
+        requires { ⌜ Narrow self ⌝ }
+        ensures { λ r. ⌜ r ≡ rowWidth self ⌝ }
     {
         self.kind + self.reason + self.start + self.end + self.line + self.column
     }
 
     // How many bytes the file of so many tokens has.
     pub fn file_width(self, count: usize) -> usize
-        requires { ⌜ Narrow (asLayout self) × (fileWidth (asLayout self) count < 2 ^ 64) ⌝ }
-        ensures { λ r. ⌜ r ≡ fileWidth (asLayout self) count ⌝ }
+        requires { ⌜ Narrow self × (fileWidth self count < 2 ^ 64) ⌝ }
+        ensures { λ r. ⌜ r ≡ fileWidth self count ⌝ }
     {
         HEADER_WIDTH + self.row_width() * count
     }

@@ -5,9 +5,10 @@ ghost use Prim.Native.Nat.{_+_, _*_, _≤_, _<_};
 ghost use lib.ListN.{length, drop};
 ghost use lib.Seq.{sets};
 ghost use Rattle.token.specs.Layout.{recordWidth};
+ghost use Rattle.token.specs.Reason.{reasonOk};
 ghost use Rattle.token_file.specs.Rules.{rowsOk, rowsNumbers};
 ghost use Rattle.token_file.specs.Format.{headerWidth, rowWidth, fileWidth, fileCount, bytesRows, framed};
-ghost use Rattle.token_file.specs.Fits.{Narrow, RowRead, asRow, asLayout};
+ghost use Rattle.token_file.specs.Fits.{Narrow, RowRead};
 ghost use Rattle.token_file.specs.Calls.{ReadsFile, loadedNumber, loadedValue};
 use crate::layout::HEADER_WIDTH;
 use crate::layout::Layout;
@@ -63,8 +64,8 @@ fn count_of(file: &[u8]) -> usize
 
 // Whether mark, version and length are right.
 fn is_framed(file: &[u8], y: Layout) -> bool
-    requires { ⌜ Narrow (asLayout y) ⌝ }
-    ensures { λ r. ⌜ r ≡ framed (asLayout y) (now (file .entry)) ⌝ }
+    requires { ⌜ Narrow y ⌝ }
+    ensures { λ r. ⌜ r ≡ framed y (now (file .entry)) ⌝ }
 {
     if file.len() < HEADER_WIDTH {
         return false;
@@ -77,8 +78,8 @@ fn is_framed(file: &[u8], y: Layout) -> bool
 
 // The row at `at`.
 fn get_row(file: &[u8], at: usize, y: Layout) -> Row
-    requires { ⌜ Narrow (asLayout y) × (at + rowWidth (asLayout y) ≤ length (now file)) ⌝ }
-    ensures { λ r. ⌜ RowRead (asLayout y) (now (file .entry)) at (asRow r) ⌝ }
+    requires { ⌜ Narrow y × (at + rowWidth y ≤ length (now file)) ⌝ }
+    ensures { λ r. ⌜ RowRead y (now (file .entry)) at r ⌝ }
 {
     let reason = at + y.kind;
     let start = reason + y.reason;
@@ -97,8 +98,8 @@ fn get_row(file: &[u8], at: usize, y: Layout) -> Row
 
 // Whether the `count` rows after the header keep the rules.
 fn rows_ok(file: &[u8], y: Layout, count: usize) -> bool
-    requires { ⌜ Narrow (asLayout y) × (fileWidth (asLayout y) count ≤ length (now file)) ⌝ }
-    ensures { λ r. ⌜ r ≡ rowsOk 0 (bytesRows (asLayout y) count (drop headerWidth (now (file .entry)))) ⌝ }
+    requires { ⌜ Narrow y × (fileWidth y count ≤ length (now file)) ⌝ }
+    ensures { λ r. ⌜ r ≡ rowsOk reasonOk 0 (bytesRows y count (drop headerWidth (now (file .entry)))) ⌝ }
 {
     let width = y.row_width();
     let mut at = HEADER_WIDTH;
@@ -118,8 +119,8 @@ fn rows_ok(file: &[u8], y: Layout, count: usize) -> bool
 
 // Stores the records of the `count` rows after the header.
 fn store_rows(tokens: &mut [i64], file: &[u8], y: Layout, count: usize)
-    requires { ⌜ Narrow (asLayout y) × (fileWidth (asLayout y) count ≤ length (now file)) × (count * recordWidth ≤ length (now tokens)) ⌝ }
-    ensures { λ r. ⌜ now (tokens .exit) ≡ sets (now (tokens .entry)) 0 (rowsNumbers (bytesRows (asLayout y) count (drop headerWidth (now (file .entry))))) ⌝ }
+    requires { ⌜ Narrow y × (fileWidth y count ≤ length (now file)) × (count * recordWidth ≤ length (now tokens)) ⌝ }
+    ensures { λ r. ⌜ now (tokens .exit) ≡ sets (now (tokens .entry)) 0 (rowsNumbers (bytesRows y count (drop headerWidth (now (file .entry))))) ⌝ }
 {
     let width = y.row_width();
     let mut at = HEADER_WIDTH;

@@ -6,7 +6,6 @@ ghost use lib.ListN.{length, drop};
 ghost use Rattle.token.specs.Layout.{recordWidth};
 ghost use Rattle.token_file.specs.Rules.{natural, magnitude, number, naturalRow, rowAt, rowsOf, someAbove};
 ghost use Rattle.token_file.specs.Calls.{recordsOk};
-ghost use Rattle.token_file.specs.Fits.{asRow};
 use crate::row;
 use crate::row::Row;
 
@@ -46,7 +45,7 @@ fn natural_row(records: &[i64], at: usize) -> bool
 // The kept numbers of the record at `at`.
 pub fn row_at(records: &[i64], at: usize) -> Row
     requires { ⌜ at + recordWidth ≤ length (now records) ⌝ }
-    ensures { λ r. ⌜ asRow r ≡ rowAt (drop at (now (records .entry))) ⌝ }
+    ensures { λ r. ⌜ r ≡ rowAt (drop at (now (records .entry))) ⌝ }
 {
     Row {
         kind: magnitude_at(records, at),

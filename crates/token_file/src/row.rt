@@ -1,10 +1,13 @@
 // The numbers of a token record that a token file keeps, and the record rules.
+use token::kind;
 use token::layout::RECORD_WIDTH;
 use token::layout::Record;
+use token::reason;
 ghost use mathlib.Core.Path.{_≡_};
 ghost use mathlib.Core.Bool.{_&&_};
-ghost use Rattle.token_file.specs.Rules.{rowNumbers, reasonOk, spanOk, rowOk};
-ghost use Rattle.token_file.specs.Fits.{RowSmall, lastOk, asRow};
+ghost use Rattle.token.specs.Reason.{reasonOk};
+ghost use Rattle.token_file.specs.Rules.{rowNumbers, spanOk, rowOk};
+ghost use Rattle.token_file.specs.Fits.{RowSmall, lastOk};
 use limits::MAX_MESSAGE_SIZE;
 
 // The last line and the last column: both count from 1.
@@ -22,8 +25,8 @@ pub struct Row {
 impl Row {
     // The record as it is stored, with 0 for the numbers that a token file does not keep.
     pub fn numbers(self) -> [i64; RECORD_WIDTH]
-        requires { ⌜ RowSmall (asRow self) ⌝ }
-        ensures { λ r. ⌜ r ≡ rowNumbers (asRow self) ⌝ }
+        requires { ⌜ RowSmall self ⌝ }
+        ensures { λ r. ⌜ r ≡ rowNumbers self ⌝ }
     {
         let record = Record {
             kind: self.kind,
@@ -43,19 +46,10 @@ impl Row {
     }
 }
 
-fn reason_ok(kind: usize, reason: usize) -> bool
-    ensures { λ r. ⌜ r ≡ reasonOk kind reason ⌝ }
-{
-    if kind == 1 {
-        return (1 <= reason) & (reason <= 18);
-    }
-    reason == 0
-}
-
 fn span_ok(kind: usize, start: usize, end: usize) -> bool
     ensures { λ r. ⌜ r ≡ spanOk kind start end ⌝ }
 {
-    if kind == 0 {
+    if kind == kind::EOF {
         return start == end;
     }
     start < end
@@ -63,29 +57,29 @@ fn span_ok(kind: usize, start: usize, end: usize) -> bool
 
 // Whether the row keeps the rules after the end of the row before it.
 fn row_ok(prev: usize, row: Row) -> bool
-    ensures { λ r. ⌜ r ≡ rowOk prev (asRow row) ⌝ }
+    ensures { λ r. ⌜ r ≡ rowOk reasonOk prev row ⌝ }
 {
     let line = (1 <= row.line) & (row.line <= LAST_PLACE);
     let column = (1 <= row.column) & (row.column <= LAST_PLACE);
     let places = (prev <= row.start) & ((row.end <= MAX_MESSAGE_SIZE) & (line & column));
-    let reason = reason_ok(row.kind, row.reason);
+    let reason = reason::reason_ok(row.kind, row.reason);
     let span = span_ok(row.kind, row.start, row.end);
-    (row.kind <= 25) & (reason & (span & places))
+    (row.kind <= kind::LAST) & (reason & (span & places))
 }
 
 // Whether the row is of kind 0 exactly where it is the only one left.
 fn last_ok(left: usize, row: Row) -> bool
-    ensures { λ r. ⌜ r ≡ lastOk left (asRow row) ⌝ }
+    ensures { λ r. ⌜ r ≡ lastOk left row ⌝ }
 {
     if left == 1 {
-        return row.kind == 0;
+        return row.kind == kind::EOF;
     }
-    row.kind != 0
+    row.kind != kind::EOF
 }
 
 // Whether the row may stand after the end `prev` with `left` rows left, itself among them.
 pub fn may_stand(prev: usize, left: usize, row: Row) -> bool
-    ensures { λ r. ⌜ r ≡ lastOk left (asRow row) && rowOk prev (asRow row) ⌝ }
+    ensures { λ r. ⌜ r ≡ lastOk left row && rowOk reasonOk prev row ⌝ }
 {
     last_ok(left, row) & row_ok(prev, row)
 }

@@ -7,7 +7,7 @@ ghost use lib.Seq.{sets};
 ghost use Rattle.token.specs.Layout.{recordWidth};
 ghost use Rattle.token_file.specs.Rules.{rowsOf};
 ghost use Rattle.token_file.specs.Format.{header, headerWidth, rowBytes, rowsBytes, rowWidth, fileWidth};
-ghost use Rattle.token_file.specs.Fits.{Narrow, asRow, asLayout};
+ghost use Rattle.token_file.specs.Fits.{Narrow};
 ghost use Rattle.token_file.specs.Calls.{WritesFile, writtenNumber, writtenValue};
 use crate::layout::HEADER_WIDTH;
 use crate::layout::Layout;
@@ -15,13 +15,16 @@ use crate::number;
 use crate::records;
 use crate::row::Row;
 
+// The largest column that 16 bits hold.
+const LARGEST_COLUMN: usize = 65535;
+
 // What writing a token file answers.
 pub enum Written {
     // How many bytes were written.
     Bytes(usize),
     // The records break the record rules, or the slice is too short for them.
     BadRecords,
-    // A column above 65,535.
+    // A column above LARGEST_COLUMN.
     LongColumn,
     // The buffer is too short.
     NoRoom,
@@ -56,7 +59,7 @@ impl Written {
 // Writes mark, version and count.
 fn put_header(out: &mut [u8], y: Layout, count: usize)
     requires { ⌜ headerWidth ≤ length (now out) ⌝ }
-    ensures { λ r. ⌜ now (out .exit) ≡ sets (now (out .entry)) 0 (header (asLayout y) count) ⌝ }
+    ensures { λ r. ⌜ now (out .exit) ≡ sets (now (out .entry)) 0 (header y count) ⌝ }
 {
     out[0] = b'O';
     out[1] = b'F';
@@ -67,8 +70,8 @@ fn put_header(out: &mut [u8], y: Layout, count: usize)
 
 // Writes the row from `at` on.
 fn put_row(out: &mut [u8], at: usize, y: Layout, row: Row)
-    requires { ⌜ at + rowWidth (asLayout y) ≤ length (now out) ⌝ }
-    ensures { λ r. ⌜ now (out .exit) ≡ sets (now (out .entry)) at (rowBytes (asLayout y) (asRow row)) ⌝ }
+    requires { ⌜ at + rowWidth y ≤ length (now out) ⌝ }
+    ensures { λ r. ⌜ now (out .exit) ≡ sets (now (out .entry)) at (rowBytes y row) ⌝ }
 {
     let reason = at + y.kind;
     let start = reason + y.reason;
@@ -85,8 +88,8 @@ fn put_row(out: &mut [u8], at: usize, y: Layout, row: Row)
 
 // Writes the rows of `count` records after the header.
 fn put_rows(out: &mut [u8], y: Layout, records: &[i64], count: usize)
-    requires { ⌜ Narrow (asLayout y) × (fileWidth (asLayout y) count ≤ length (now out)) × (count * recordWidth ≤ length (now records)) ⌝ }
-    ensures { λ r. ⌜ now (out .exit) ≡ sets (now (out .entry)) headerWidth (rowsBytes (asLayout y) (rowsOf count (now (records .entry)))) ⌝ }
+    requires { ⌜ Narrow y × (fileWidth y count ≤ length (now out)) × (count * recordWidth ≤ length (now records)) ⌝ }
+    ensures { λ r. ⌜ now (out .exit) ≡ sets (now (out .entry)) headerWidth (rowsBytes y (rowsOf count (now (records .entry)))) ⌝ }
 {
     let width = y.row_width();
     let mut to = HEADER_WIDTH;
@@ -108,7 +111,7 @@ pub fn write_token_file(records: &[i64], count: usize, out: &mut [u8]) -> Writte
     if !records::records_ok(records, count) {
         return Written::BadRecords;
     }
-    if records::some_above(65535, records, count) {
+    if records::some_above(LARGEST_COLUMN, records, count) {
         return Written::LongColumn;
     }
     let y = Layout::version1();

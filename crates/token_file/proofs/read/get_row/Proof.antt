@@ -1,6 +1,5 @@
 -- `get_row` reads the row at `at`: each number stands where the layout puts it. Assumes nothing.
 use Rattle.token_file.proofs.Rows.{row-read}
-use Rattle.token_file.specs.Fits.{asLayout}
 use native.Mathlib.Omega.{arith}
 use Rattle.token_file.specs.Format.{rowWidth}
 use Rattle.token_file.proofs.read.get_row.Statement.{statement}
@@ -53,7 +52,7 @@ get-little-requires-6 c κs = omega arith
 returns : tie.Need-returns
 returns c =
     let a = c .before .before .before .before .before .before .before .before .before .before .before .before .args in
-    row-read (asLayout (a .y)) (a .file .now) (a .at) (c .before .before .before .before .before .before .before .before .before .before .before .before .pre .0) (c .before .before .before .before .before .get-little .ensures) (c .before .before .before .before .get-little2 .ensures) (c .before .before .before .get-little3 .ensures) (c .before .before .get-little4 .ensures) (c .before .get-little5 .ensures) (c .get-little6 .ensures)
+    row-read (a .y) (a .file .now) (a .at) (c .before .before .before .before .before .before .before .before .before .before .before .before .pre .0) (c .before .before .before .before .before .get-little .ensures) (c .before .before .before .before .get-little2 .ensures) (c .before .before .before .get-little3 .ensures) (c .before .before .get-little4 .ensures) (c .before .get-little5 .ensures) (c .get-little6 .ensures)
 
 pub get-row-spec : {M : Type 1} → statement M
 get-row-spec =

@@ -1,14 +1,12 @@
 -- `is_framed` is `framed`: the same tests in the same order. Assumes nothing.
-use Rattle.token_file.proofs.Rows.{file-fits}
-use Rattle.token_file.proofs.Rows.{short-framed, framed-is}
+use Rattle.token_file.proofs.Rows.{file-fits, short-framed, framed-is}
 use native.Mathlib.Omega.{arith}
-use Rattle.token_file.specs.Fits.{asLayout}
 use borrow.Author.Needs.{needs}
 use Rattle.token_file.proofs.read.is_framed.Statement.{statement}
 use Rattle.token_file.proofs.read.is_framed.Tie as tie
 
 returns : tie.Need-returns
-returns c = let a = c .before .before .args in short-framed (asLayout (a .y)) (a .file .now) (c .if1 .taken)
+returns c = let a = c .before .before .args in short-framed (a .y) (a .file .now) (c .if1 .taken)
 
 shared-slice-read-mark : tie.Need-shared-slice-read-mark
 shared-slice-read-mark c = search needs
@@ -28,12 +26,12 @@ count-of-requires c κs = search needs
 file-width-requires : tie.Need-file-width-requires
 file-width-requires c κs =
     let s = c .before .before .before .before .before .before .before .before in
-    (s .pre, file-fits (asLayout (s .args .y)) (c .before .count-of .result) (s .pre) (c .before .count-of .ensures .1))
+    (s .pre, file-fits (s .args .y) (c .before .count-of .result) (s .pre) (c .before .count-of .ensures .1))
 
 returns-2 : tie.Need-returns-2
 returns-2 c =
     let a = c .before .before .before .before .before .before .before .before .before .args in
-    framed-is (asLayout (a .y)) (a .file .now) (c .before .before .before .before .before .before .before .if1 .left) (c .before .before .before .get-little .result) (c .before .before .count-of .result) (c .file-width .result) (c .before .before .before .get-little .ensures .0) (c .before .before .count-of .ensures .0) (c .file-width .ensures)
+    framed-is (a .y) (a .file .now) (c .before .before .before .before .before .before .before .if1 .left) (c .before .before .before .get-little .result) (c .before .before .count-of .result) (c .file-width .result) (c .before .before .before .get-little .ensures .0) (c .before .before .count-of .ensures .0) (c .file-width .ensures)
 
 pub is-framed-spec : {M : Type 1} → statement M
 is-framed-spec =

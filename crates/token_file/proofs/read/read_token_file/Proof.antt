@@ -2,7 +2,6 @@
 use mathlib.Core.Path.{sym, _∙_}
 use native.Mathlib.Omega.{arith}
 use borrow.Author.Tests.{not-true, not-false}
-use Rattle.token_file.specs.Fits.{asLayout}
 use Rattle.token_file.proofs.Writing.{narrow1}
 use Rattle.token_file.proofs.Reading.{read-bad-file, read-long, read-inside, read-bad-records, read-no-room, read-all}
 use Rattle.token_file.proofs.read.read_token_file.Statement.{statement}
@@ -12,32 +11,32 @@ version1-requires : tie.Need-version1-requires
 version1-requires c κs = tt
 
 is-framed-requires : tie.Need-is-framed-requires
-is-framed-requires c κs = narrow1 (asLayout (c .version1 .result)) (c .version1 .ensures)
+is-framed-requires c κs = narrow1 (c .version1 .result) (c .version1 .ensures)
 
 returns : tie.Need-returns
 returns c =
     let a = c .before .before .before .before .args in
     let v = c .before .before .version1 in
-    read-bad-file (a .file .now) (a .tokens .now) (asLayout (v .result)) (v .ensures) (sym (c .before .is-framed .ensures) ∙ not-true _ (c .if1 .taken))
+    read-bad-file (a .file .now) (a .tokens .now) (v .result) (v .ensures) (sym (c .before .is-framed .ensures) ∙ not-true _ (c .if1 .taken))
 
 count-of-requires : tie.Need-count-of-requires
 count-of-requires c κs =
     let a = c .before .before .before .before .args in
     let v = c .before .before .version1 in
-    read-long (a .file .now) (a .tokens .now) (asLayout (v .result)) (v .ensures) (sym (c .before .is-framed .ensures) ∙ not-false _ (c .if1 .left))
+    read-long (a .file .now) (a .tokens .now) (v .result) (v .ensures) (sym (c .before .is-framed .ensures) ∙ not-false _ (c .if1 .left))
 
 rows-ok-requires : tie.Need-rows-ok-requires
 rows-ok-requires c κs =
     let a = c .before .before .before .before .before .args in
     let v = c .before .before .before .version1 in
-    (narrow1 (asLayout (v .result)) (v .ensures), read-inside (a .file .now) (a .tokens .now) (asLayout (v .result)) (v .ensures) (sym (c .before .before .is-framed .ensures) ∙ not-false _ (c .before .if1 .left)) (c .count-of .result) (c .count-of .ensures .0))
+    (narrow1 (v .result) (v .ensures), read-inside (a .file .now) (a .tokens .now) (v .result) (v .ensures) (sym (c .before .before .is-framed .ensures) ∙ not-false _ (c .before .if1 .left)) (c .count-of .result) (c .count-of .ensures .0))
 
 returns-2 : tie.Need-returns-2
 returns-2 c =
     let a = c .before .before .before .before .before .before .before .args in
     let v = c .before .before .before .before .before .version1 in
     let n = c .before .before .count-of in
-    read-bad-records (a .file .now) (a .tokens .now) (asLayout (v .result)) (v .ensures) (sym (c .before .before .before .before .is-framed .ensures) ∙ not-false _ (c .before .before .before .if1 .left)) (n .result) (n .ensures .0)
+    read-bad-records (a .file .now) (a .tokens .now) (v .result) (v .ensures) (sym (c .before .before .before .before .is-framed .ensures) ∙ not-false _ (c .before .before .before .if1 .left)) (n .result) (n .ensures .0)
     (sym (c .before .rows-ok .ensures) ∙ not-true _ (c .if2 .taken))
 
 returns-3 : tie.Need-returns-3
@@ -45,7 +44,7 @@ returns-3 c =
     let a = c .before .before .before .before .before .before .before .before .args in
     let v = c .before .before .before .before .before .before .version1 in
     let n = c .before .before .before .count-of in
-    read-no-room (a .file .now) (a .tokens .now) (asLayout (v .result)) (v .ensures) (sym (c .before .before .before .before .before .is-framed .ensures) ∙ not-false _ (c .before .before .before .before .if1 .left)) (n .result) (n .ensures .0)
+    read-no-room (a .file .now) (a .tokens .now) (v .result) (v .ensures) (sym (c .before .before .before .before .before .is-framed .ensures) ∙ not-false _ (c .before .before .before .before .if1 .left)) (n .result) (n .ensures .0)
     (sym (c .before .before .rows-ok .ensures) ∙ not-false _ (c .before .if2 .left)) (c .if3 .taken)
 
 store-rows-requires : tie.Need-store-rows-requires
@@ -53,8 +52,8 @@ store-rows-requires c κs =
     let a = c .before .before .before .before .before .before .before .before .before .args in
     let v = c .before .before .before .before .before .before .before .version1 in
     let n = c .before .before .before .before .count-of in
-    let e = narrow1 (asLayout (v .result)) (v .ensures) in
-    (e, read-inside (a .file .now) (a .tokens .now) (asLayout (v .result)) (v .ensures) (sym (c .before .before .before .before .before .before .is-framed .ensures) ∙ not-false _ (c .before .before .before .before .before .if1 .left)) (n .result) (n .ensures .0), omega (arith, c .before .if3 .left))
+    let e = narrow1 (v .result) (v .ensures) in
+    (e, read-inside (a .file .now) (a .tokens .now) (v .result) (v .ensures) (sym (c .before .before .before .before .before .before .is-framed .ensures) ∙ not-false _ (c .before .before .before .before .before .if1 .left)) (n .result) (n .ensures .0), omega (arith, c .before .if3 .left))
 
 same-length : tie.Need-same-length
 same-length c = c .before .store-rows .kept .0
@@ -64,7 +63,7 @@ returns-4 c =
     let a = c .before .before .before .before .before .before .before .before .before .before .before .args in
     let v = c .before .before .before .before .before .before .before .before .before .version1 in
     let n = c .before .before .before .before .before .before .count-of in
-    read-all (a .file .now) (a .tokens .now) (asLayout (v .result)) (v .ensures) (sym (c .before .before .before .before .before .before .before .before .is-framed .ensures) ∙ not-false _ (c .before .before .before .before .before .before .before .if1 .left)) (n .result) (n .ensures .0)
+    read-all (a .file .now) (a .tokens .now) (v .result) (v .ensures) (sym (c .before .before .before .before .before .before .before .before .is-framed .ensures) ∙ not-false _ (c .before .before .before .before .before .before .before .if1 .left)) (n .result) (n .ensures .0)
     (sym (c .before .before .before .before .before .rows-ok .ensures) ∙ not-false _ (c .before .before .before .before .if2 .left)) (c .before .before .before .if3 .left) (c .before .store-rows .ensures)
 
 pub read-token-file-spec : {M : Type 1} → statement M

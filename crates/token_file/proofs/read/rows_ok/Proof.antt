@@ -3,12 +3,11 @@ use mathlib.Core.Path.{sym, _∙_}
 use borrow.Author.Tests.{not-true, not-false}
 use native.Mathlib.Omega.{arith}
 use Rattle.token_file.proofs.Judging.{JudgingRows, rows-start, rows-room, rows-more, rows-stop, rows-end}
-use Rattle.token_file.specs.Fits.{asLayout}
 use Rattle.token_file.proofs.read.rows_ok.Statement.{statement}
 use Rattle.token_file.proofs.read.rows_ok.Tie as tie
 
 abbrev Inv-loop : tie.InvT-loop
-Inv-loop file y count width at₀ left₀ prev₀ at left prev = JudgingRows (asLayout y) file count at left prev
+Inv-loop file y count width at₀ left₀ prev₀ at left prev = JudgingRows y file count at left prev
 
 abbrev μ-loop : tie.MeasureT-loop
 μ-loop file y count width at₀ left₀ prev₀ at left prev = left
@@ -17,7 +16,7 @@ row-width-requires : tie.Need-row-width-requires Inv-loop μ-loop
 row-width-requires c κs = c .before .pre .0
 
 loop-holds : tie.Need-loop-holds Inv-loop μ-loop
-loop-holds c = let s = c .before .before in rows-start (asLayout (s .args .y)) (s .args .file .now) (s .args .count) (s .pre .1)
+loop-holds c = let s = c .before .before in rows-start (s .args .y) (s .args .file .now) (s .args .count) (s .pre .1)
 
 get-row-requires : tie.Need-get-row-requires Inv-loop μ-loop
 get-row-requires c κs = (c .before .before .before .before .pre .0, rows-room (c .before .loop .inv) (c .loop-test .taken))

@@ -4,13 +4,12 @@ use lib.ListN.{length}
 use lib.Seq.{sets}
 use native.Mathlib.Omega.{arith}
 use Rattle.token_file.proofs.Storing.{StoringRows, store-rows-start, store-rows-room, store-rows-turn, store-rows-end}
-use Rattle.token_file.specs.Fits.{asLayout}
 use borrow.Author.Needs.{needs}
 use Rattle.token_file.proofs.read.store_rows.Statement.{statement}
 use Rattle.token_file.proofs.read.store_rows.Tie as tie
 
 abbrev Inv-loop : tie.InvT-loop
-Inv-loop tokens₀ file y count width at₀ to₀ left₀ tokens at to left = StoringRows (asLayout y) file tokens₀ count tokens at to left
+Inv-loop tokens₀ file y count width at₀ to₀ left₀ tokens at to left = StoringRows y file tokens₀ count tokens at to left
 
 abbrev μ-loop : tie.MeasureT-loop
 μ-loop tokens₀ file y count width at₀ to₀ left₀ tokens at to left = left
@@ -21,7 +20,7 @@ row-width-requires c κs = c .before .pre .0
 loop-holds : tie.Need-loop-holds Inv-loop μ-loop
 loop-holds c =
     let s = c .before .before in
-    store-rows-start (asLayout (s .args .y)) (s .args .file .now) (s .args .tokens .now) (s .args .count) (s .pre .1) (s .pre .2)
+    store-rows-start (s .args .y) (s .args .file .now) (s .args .tokens .now) (s .args .count) (s .pre .1) (s .pre .2)
 
 get-row-requires : tie.Need-get-row-requires Inv-loop μ-loop
 get-row-requires c κs = (c .before .before .before .before .pre .0, store-rows-room (c .before .loop .inv) (c .loop-test .taken))

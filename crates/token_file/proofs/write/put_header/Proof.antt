@@ -2,7 +2,6 @@
 use Rattle.token_file.proofs.Rows.{header-put}
 use native.Mathlib.Omega.{arith}
 use lib.ListN.{length-set}
-use Rattle.token_file.specs.Fits.{asLayout}
 use borrow.Author.Needs.{needs}
 use Rattle.token_file.proofs.write.put_header.Statement.{statement}
 use Rattle.token_file.proofs.write.put_header.Tie as tie
@@ -28,7 +27,7 @@ same-length c = omega (arith, simp length-set at (c .before .before .before .bef
 returns : tie.Need-returns
 returns c =
     let a = c .before .before .before .before .before .before .before .before .before .args in
-    header-put (asLayout (a .y)) (a .count) (a .out .now) (c .before .before .before .before .before .before .put-little .ensures) (c .before .before .put-little2 .ensures)
+    header-put (a .y) (a .count) (a .out .now) (c .before .before .before .before .before .before .put-little .ensures) (c .before .before .put-little2 .ensures)
 
 pub put-header-spec : {M : Type 1} → statement M
 put-header-spec =

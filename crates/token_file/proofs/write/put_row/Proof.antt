@@ -1,6 +1,5 @@
 -- `put_row` stores the row's bytes: each number goes where the layout puts it. Assumes nothing.
 use Rattle.token_file.proofs.Rows.{row-put}
-use Rattle.token_file.specs.Fits.{asLayout, asRow}
 use native.Mathlib.Omega.{arith}
 use Rattle.token_file.specs.Format.{rowWidth}
 use Rattle.token_file.proofs.write.put_row.Statement.{statement}
@@ -56,7 +55,7 @@ same-length c = omega arith
 returns : tie.Need-returns
 returns c =
     let a = c .before .before .before .before .before .before .before .before .before .before .before .before .before .before .before .before .before .before .before .before .before .before .before .before .before .before .before .before .before .before .args in
-    row-put (asLayout (a .y)) (asRow (a .row)) (a .at) (a .out .now) (c .before .before .before .before .before .before .before .before .before .before .before .before .before .before .before .before .before .before .before .before .before .before .put-little .ensures) (c .before .before .before .before .before .before .before .before .before .before .before .before .before .before .before .before .before .before .put-little2 .ensures) (c .before .before .before .before .before .before .before .before .before .before .before .before .before .before .put-little3 .ensures) (c .before .before .before .before .before .before .before .before .before .before .put-little4 .ensures) (c .before .before .before .before .before .before .put-little5 .ensures) (c .before .before .put-little6 .ensures)
+    row-put (a .y) (a .row) (a .at) (a .out .now) (c .before .before .before .before .before .before .before .before .before .before .before .before .before .before .before .before .before .before .before .before .before .before .put-little .ensures) (c .before .before .before .before .before .before .before .before .before .before .before .before .before .before .before .before .before .before .put-little2 .ensures) (c .before .before .before .before .before .before .before .before .before .before .before .before .before .before .put-little3 .ensures) (c .before .before .before .before .before .before .before .before .before .before .put-little4 .ensures) (c .before .before .before .before .before .before .put-little5 .ensures) (c .before .before .put-little6 .ensures)
 
 pub put-row-spec : {M : Type 1} → statement M
 put-row-spec =

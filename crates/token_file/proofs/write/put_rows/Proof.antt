@@ -1,12 +1,11 @@
 -- `put_rows` leaves the stores of all rows' bytes: what is left to store, stored from here on, makes the whole. Assumes nothing.
 use native.Mathlib.Omega.{arith}
 use Rattle.token_file.proofs.Storing.{PuttingRows, put-rows-start, put-rows-room, put-rows-turn, put-rows-end}
-use Rattle.token_file.specs.Fits.{asLayout}
 use Rattle.token_file.proofs.write.put_rows.Statement.{statement}
 use Rattle.token_file.proofs.write.put_rows.Tie as tie
 
 abbrev Inv-loop : tie.InvT-loop
-Inv-loop out₀ y records count width to₀ at₀ left₀ out to at left = PuttingRows (asLayout y) records out₀ count out to at left
+Inv-loop out₀ y records count width to₀ at₀ left₀ out to at left = PuttingRows y records out₀ count out to at left
 
 abbrev μ-loop : tie.MeasureT-loop
 μ-loop out₀ y records count width to₀ at₀ left₀ out to at left = left
@@ -17,7 +16,7 @@ row-width-requires c κs = c .before .pre .0
 loop-holds : tie.Need-loop-holds Inv-loop μ-loop
 loop-holds c =
     let s = c .before .before in
-    put-rows-start (asLayout (s .args .y)) (s .args .records .now) (s .args .out .now) (s .args .count) (s .pre .1) (s .pre .2)
+    put-rows-start (s .args .y) (s .args .records .now) (s .args .out .now) (s .args .count) (s .pre .1) (s .pre .2)
 
 row-at-requires : tie.Need-row-at-requires Inv-loop μ-loop
 row-at-requires c κs = omega (arith, c .before .loop .inv .records)

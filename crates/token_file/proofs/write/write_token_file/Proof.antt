@@ -2,7 +2,6 @@
 use mathlib.Core.Path.{sym, _∙_}
 use native.Mathlib.Omega.{arith}
 use borrow.Author.Tests.{not-true, not-false}
-use Rattle.token_file.specs.Fits.{asLayout}
 use Rattle.token_file.proofs.Writing.{narrow1, width1, write-bad, in-slice, write-long, write-no-room, write-all}
 use Rattle.token_file.proofs.write.write_token_file.Statement.{statement}
 use Rattle.token_file.proofs.write.write_token_file.Tie as tie
@@ -33,26 +32,26 @@ file-width-requires c κs =
     let s = c .before .before .before .before .before .before in
     let a = s .args in
     let i = in-slice (a .records .now) (a .count) (a .out .now) (sym (c .before .before .before .before .records-ok .ensures) ∙ not-false _ (c .before .before .before .if1 .left)) in
-    (narrow1 (asLayout (c .version1 .result)) (c .version1 .ensures), omega (arith, width1 (asLayout (c .version1 .result)) (a .count) (c .version1 .ensures), s .good))
+    (narrow1 (c .version1 .result) (c .version1 .ensures), omega (arith, width1 (c .version1 .result) (a .count) (c .version1 .ensures), s .good))
 
 returns-3 : tie.Need-returns-3
 returns-3 c =
     let a = c .before .before .before .before .before .before .before .before .args in
     let v = c .before .before .version1 in
     write-no-room (a .records .now) (a .count) (a .out .now) (sym (c .before .before .before .before .before .before .records-ok .ensures) ∙ not-false _ (c .before .before .before .before .before .if1 .left)) (sym (c .before .before .before .before .some-above .ensures) ∙ c .before .before .before .if2 .left)
-    (asLayout (v .result)) (v .ensures) (c .before .file-width .result) (c .before .file-width .ensures) (c .if3 .taken)
+    (v .result) (v .ensures) (c .before .file-width .result) (c .before .file-width .ensures) (c .if3 .taken)
 
 put-header-requires : tie.Need-put-header-requires
 put-header-requires c κs =
     let v = c .before .before .before .version1 in
-    omega (arith, width1 (asLayout (v .result)) (c .before .before .before .before .before .before .before .before .before .args .count) (v .ensures), c .before .before .file-width .ensures, c .before .if3 .left)
+    omega (arith, width1 (v .result) (c .before .before .before .before .before .before .before .before .before .args .count) (v .ensures), c .before .before .file-width .ensures, c .before .if3 .left)
 
 put-rows-requires : tie.Need-put-rows-requires
 put-rows-requires c κs =
     let a = c .before .before .before .before .before .before .before .before .before .before .before .before .before .args in
     let v = c .before .before .before .before .before .before .before .version1 in
     let i = in-slice (a .records .now) (a .count) (a .out .now) (sym (c .before .before .before .before .before .before .before .before .before .before .before .records-ok .ensures) ∙ not-false _ (c .before .before .before .before .before .before .before .before .before .before .if1 .left)) in
-    (narrow1 (asLayout (v .result)) (v .ensures), omega (arith, c .before .before .before .put-header .kept .0, c .before .before .before .before .before .before .file-width .ensures, c .before .before .before .before .before .if3 .left), i)
+    (narrow1 (v .result) (v .ensures), omega (arith, c .before .before .before .put-header .kept .0, c .before .before .before .before .before .before .file-width .ensures, c .before .before .before .before .before .if3 .left), i)
 
 same-length : tie.Need-same-length
 same-length c = omega (arith, c .before .before .put-rows .kept .0, c .before .before .before .before .before .before .put-header .kept .0)
@@ -62,7 +61,7 @@ returns-4 c =
     let a = c .before .before .before .before .before .before .before .before .before .before .before .before .before .before .before .before .args in
     let v = c .before .before .before .before .before .before .before .before .before .before .version1 in
     write-all (a .records .now) (a .count) (a .out .now) (sym (c .before .before .before .before .before .before .before .before .before .before .before .before .before .before .records-ok .ensures) ∙ not-false _ (c .before .before .before .before .before .before .before .before .before .before .before .before .before .if1 .left)) (sym (c .before .before .before .before .before .before .before .before .before .before .before .before .some-above .ensures) ∙ c .before .before .before .before .before .before .before .before .before .before .before .if2 .left)
-    (asLayout (v .result)) (v .ensures) (c .before .before .before .before .before .before .before .before .before .file-width .result) (c .before .before .before .before .before .before .before .before .before .file-width .ensures) (c .before .before .before .before .before .before .before .before .if3 .left) (c .before .before .before .before .before .before .put-header .ensures) (c .before .before .put-rows .ensures)
+    (v .result) (v .ensures) (c .before .before .before .before .before .before .before .before .before .file-width .result) (c .before .before .before .before .before .before .before .before .before .file-width .ensures) (c .before .before .before .before .before .before .before .before .if3 .left) (c .before .before .before .before .before .before .put-header .ensures) (c .before .before .put-rows .ensures)
 
 pub write-token-file-spec : {M : Type 1} → statement M
 write-token-file-spec =

@@ -4,21 +4,7 @@ use Rattle.token_file.proofs.row.Row.numbers.Statement.{statement}
 use Rattle.token_file.proofs.row.Row.numbers.Tie as tie
 
 numbers-requires : tie.Need-numbers-requires
-numbers-requires c κs =
-    let s = c .pre in
-    record {
-      kind = s .kind;
-      reason = s .reason;
-      detail = omega arith;
-      start = s .start;
-      end = s .end;
-      line = s .line;
-      column = s .column;
-      value = omega arith;
-      size = omega arith;
-      precision = omega arith;
-      digits = omega arith;
-    }
+numbers-requires c κs = omega arith
 
 returns : tie.Need-returns
 returns c = c .numbers .ensures

@@ -1,7 +1,7 @@
 -- `reason_ok` is `reasonOk`: its test chooses the definition's case. Assumes nothing.
 use borrow.Author.Tests.{eq-eqb, ne-eqb}
-use Rattle.token_file.proofs.row.reason_ok.Statement.{statement}
-use Rattle.token_file.proofs.row.reason_ok.Tie as tie
+use Rattle.token.proofs.reason.reason_ok.Statement.{statement}
+use Rattle.token.proofs.reason.reason_ok.Tie as tie
 
 returns : tie.Need-returns
 returns c = rw (eq-eqb _ _ (c .if1 .taken))

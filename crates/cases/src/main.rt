@@ -4,8 +4,9 @@ mod escaped;
 
 ghost use Prim.Native.Nat.{_*_, _≤_};
 ghost use lib.ListN.{length};
+ghost use Rattle.token.specs.Layout.{recordWidth, reportWidth};
 ghost use Rattle.cases.specs.Room.{Roomy};
-use lexeme::Mode;
+use lexer::reading::Reading;
 use libc::STDIN_FILENO;
 use libc::STDOUT_FILENO;
 use notation::numbers::put_number;
@@ -15,6 +16,7 @@ use reading::one::ReadToken;
 use reading::one::read_token;
 use reading::place::PlaceOf;
 use reading::place::place_of;
+use reading::refusal::Refusal;
 use reading::text::ReadText;
 use reading::text::read_text;
 use token::layout::RECORD_WIDTH;
@@ -22,11 +24,11 @@ use token::layout::REPORT_WIDTH;
 use token::place::Place;
 
 // The lengths of buffers that hold the tokens, strings and reports of any text of at most 512 bytes.
-const TOKENS: usize = 6156;
+const TOKENS: usize = 513 * RECORD_WIDTH;
 
 const STRINGS: usize = 512;
 
-const REPORTS: usize = 2560;
+const REPORTS: usize = 512 * REPORT_WIDTH;
 
 // What is asked of a text: its whole reading, the token after a place, or the place of an offset.
 enum Asked {
@@ -37,7 +39,7 @@ enum Asked {
 
 // How a text is read, what is asked of it, and how long the buffers are.
 struct How {
-    mode: Mode,
+    mode: Reading,
     limit: usize,
     asked: Asked,
     tokens: usize,
@@ -50,7 +52,7 @@ fn plainly() -> How
     ensures { λ r. ⌜ Roomy r ⌝ }
 {
     How {
-        mode: Mode::Strict,
+        mode: Reading::Strict,
         limit: 0,
         asked: Asked::Whole,
         tokens: TOKENS,
@@ -95,9 +97,18 @@ fn print_strings(strings: &[u8]) {
     io::write_all(STDOUT_FILENO, b"\n");
 }
 
-fn print_refusal(number: u8, offset: usize) {
+// The offset that a refusal gives, or 0.
+fn offset_of(r: Refusal) -> usize {
+    match r {
+        Refusal::NotUtf8(at) => at,
+        _ => 0,
+    }
+}
+
+fn print_refusal(r: Refusal) {
+    let offset = offset_of(r);
     io::write_all(STDOUT_FILENO, b"refused ");
-    io::print_decimal(STDOUT_FILENO, number as u64);
+    io::print_decimal(STDOUT_FILENO, r.number() as u64);
     io::write_all(STDOUT_FILENO, b" ");
     io::print_decimal(STDOUT_FILENO, offset as u64);
     io::write_all(STDOUT_FILENO, b"\n");
@@ -105,7 +116,7 @@ fn print_refusal(number: u8, offset: usize) {
 
 // Prints these many tokens, string bytes and reports.
 fn print_counts(tokens: &[i64], strings: &[u8], reports: &[i64], n: usize, m: usize, k: usize)
-    requires { ⌜ (n * 12 ≤ length (now tokens)) × (m ≤ length (now strings)) × (k * 5 ≤ length (now reports)) ⌝ }
+    requires { ⌜ (n * recordWidth ≤ length (now tokens)) × (m ≤ length (now strings)) × (k * reportWidth ≤ length (now reports)) ⌝ }
 {
     let t = n * RECORD_WIDTH;
     let r = k * REPORT_WIDTH;
@@ -127,21 +138,19 @@ fn print_place(place: Place) {
 // Reads a whole text and prints what it gives.
 fn answer_text(
     text: &[u8],
-    mode: Mode,
+    mode: Reading,
     limit: usize,
     tokens: &mut [i64],
     strings: &mut [u8],
     reports: &mut [i64],
 ) {
-    let answer = read_text(text, mode, limit, tokens, strings, reports);
-    match answer {
+    match read_text(text, mode, limit, tokens, strings, reports) {
         ReadText::Counts {
             tokens: n,
             strings: m,
             reports: k,
         } => print_counts(tokens, strings, reports, n, m, k),
-        ReadText::NotUtf8(at) => print_refusal(answer.number(), at),
-        _ => print_refusal(answer.number(), 0),
+        ReadText::Refused(r) => print_refusal(r),
     }
 }
 
@@ -149,14 +158,13 @@ fn answer_text(
 fn answer_token(
     text: &[u8],
     place: Place,
-    mode: Mode,
+    mode: Reading,
     limit: usize,
     tokens: &mut [i64],
     strings: &mut [u8],
     reports: &mut [i64],
 ) {
-    let answer = read_token(text, place, mode, limit, tokens, strings, reports);
-    match answer {
+    match read_token(text, place, mode, limit, tokens, strings, reports) {
         ReadToken::One {
             strings: m,
             reports: k,
@@ -165,18 +173,15 @@ fn answer_token(
             print_counts(tokens, strings, reports, 1, m, k);
             print_place(end);
         }
-        ReadToken::NotUtf8(at) => print_refusal(answer.number(), at),
-        _ => print_refusal(answer.number(), 0),
+        ReadToken::Refused(r) => print_refusal(r),
     }
 }
 
 // Prints the place of an offset.
 fn answer_place(text: &[u8], offset: usize) {
-    let answer = place_of(text, offset);
-    match answer {
+    match place_of(text, offset) {
         PlaceOf::At(place) => print_place(place),
-        PlaceOf::NotUtf8(at) => print_refusal(answer.number(), at),
-        _ => print_refusal(answer.number(), 0),
+        PlaceOf::Refused(r) => print_refusal(r),
     }
 }
 
@@ -243,7 +248,7 @@ fn three_of(line: &[u8]) -> Three {
 }
 
 // The same buffers and limit, with this mode and question.
-fn asking(mode: Mode, asked: Asked, how: How) -> How
+fn asking(mode: Reading, asked: Asked, how: How) -> How
     requires { ⌜ Roomy how ⌝ }
     ensures { λ r. ⌜ Roomy r ⌝ }
 {
@@ -304,7 +309,7 @@ fn with_mode(line: &[u8], how: How) -> How
     ensures { λ r. ⌜ Roomy r ⌝ }
 {
     let asked = how.asked;
-    asking(mode_of(line), asked, how)
+    asking(reading_of(line), asked, how)
 }
 
 // How the text after a line is read. The words of a question differ in their first letters.
@@ -323,11 +328,11 @@ fn after_line(line: &[u8], how: How) -> How
     }
 }
 
-fn mode_of(line: &[u8]) -> Mode {
+fn reading_of(line: &[u8]) -> Reading {
     if base::peek(line, 5) == b't' {
-        return Mode::Tolerant;
+        return Reading::Tolerant;
     }
-    Mode::Strict
+    Reading::Strict
 }
 
 fn one_line(line: &[u8], how: How)

@@ -4,9 +4,11 @@ use Prim.Native.Nat.{ℕ, _+_, _≤_, _<_}
 use mathlib.Core.List.{List}
 use native.Mathlib.Omega.{arith}
 use lib.ListN.{length}
+use lib.IntN.{ℤ}
 use Rattle.base.specs.Bytes.{AreBytes}
+use Rattle.token.specs.Reason as reasons
 use Rattle.token.specs.declared.kind.TokenKind.{TokenKind}
-use Rattle.lexeme.specs.Lexeme.{extent, whole, bare, illegal}
+use Rattle.lexeme.specs.Lexeme.{extent, whole, bare, illegalReported, precise, duration}
 use Rattle.lexeme.specs.declared.Lexeme.{Lexeme}
 
 pub record Within (s : List ℕ) (r : Lexeme) : Type 0 where
@@ -15,7 +17,7 @@ pub record Within (s : List ℕ) (r : Lexeme) : Type 0 where
   pub value-in : r .value + r .size ≤ r .len
   pub precision-in : r .precision + r .digits ≤ r .len
   pub reports-in : r .reports ≤ r .len
-  pub reason-in : r .reason ≤ 18
+  pub reason-in : r .reason ≤ reasons.last
   pub detail-in : AreBytes s → r .detail < 0x200000
 
 -- the makers' answers
@@ -30,6 +32,31 @@ module _ (s : List ℕ) (k : TokenKind) (n : ℕ) (h : 0 < n) (e : n ≤ length 
   pub bare-within : Within s (bare k n)
   bare-within = extent-within n 0 0 (omega arith) (omega arith)
 
-pub illegal-within : (s : List ℕ) (r d n : ℕ) → 0 < n → n ≤ length s → r ≤ 18 → (AreBytes s → d < 0x200000) → Within s (illegal r d n)
-illegal-within s r d n h e i j =
-    record { some = h; ends = e; value-in = omega arith; precision-in = omega arith; reports-in = omega arith; reason-in = i; detail-in = j }
+pub illegal-within : (s : List ℕ) (r d n reports : ℕ) → 0 < n → n ≤ length s → reports ≤ n → r ≤ reasons.last → (AreBytes s → d < 0x200000)
+    → Within s (illegalReported r d n reports)
+illegal-within s r d n reports h e k i j =
+    record { some = h; ends = e; value-in = omega arith; precision-in = omega arith; reports-in = k; reason-in = i; detail-in = j }
+
+pub precise-within : (s : List ℕ) (k : TokenKind) (e n : ℕ) → e < n → n ≤ length s → Within s (precise k e n)
+precise-within s k e n h i =
+    record {
+      some = omega arith;
+      ends = i;
+      value-in = omega arith;
+      precision-in = omega arith;
+      reports-in = omega arith;
+      reason-in = omega arith;
+      detail-in = λ _. omega arith;
+    }
+
+pub duration-within : (s : List ℕ) (n : ℕ) (z : ℤ) → 0 < n → n ≤ length s → Within s (duration n z)
+duration-within s n z h i =
+    record {
+      some = h;
+      ends = i;
+      value-in = omega arith;
+      precision-in = omega arith;
+      reports-in = omega arith;
+      reason-in = omega arith;
+      detail-in = λ _. omega arith;
+    }

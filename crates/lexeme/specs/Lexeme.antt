@@ -1,6 +1,7 @@
 -- A token at the front of a text, by its numbers: document 01, "Places and records", relative to the token's start.
-use Prim.Native.Nat.{ℕ}
-use lib.IntN.{pos}
+use Prim.Native.Nat.{ℕ, _+_, _-_}
+use lib.IntN.{ℤ, pos}
+use Rattle.token.specs.Reason as reasons
 use Rattle.token.specs.declared.kind.TokenKind.{TokenKind}
 use Rattle.token.specs.declared.kind.TokenKind.the-variants as K
 use Rattle.lexeme.specs.declared.Lexeme.{Lexeme}
@@ -8,7 +9,7 @@ use Rattle.lexeme.specs.declared.Lexeme.{Lexeme}
 -- a token of n bytes with its value at v..v + size, and so many reports; "Unused numbers are 0"
 abbrev pub extent : TokenKind → ℕ → ℕ → ℕ → ℕ → Lexeme
 extent k n v size reports =
-    record { kind = k; reason = 0; detail = 0; len = n; value = v; size = size; precision = 0; digits = 0; nanos = pos 0; reports = reports }
+    record { kind = k; reason = reasons.none; detail = 0; len = n; value = v; size = size; precision = 0; digits = 0; nanos = pos 0; reports = reports }
 
 -- the token is its own value
 abbrev pub whole : TokenKind → ℕ → Lexeme
@@ -18,10 +19,24 @@ whole k n = extent k n 0 n 0
 abbrev pub bare : TokenKind → ℕ → Lexeme
 bare k n = extent k n n 0 0
 
--- "Newline, Eof and Illegal values have length 0"
+-- an Illegal token with so many reports: "Newline, Eof and Illegal values have length 0"
+abbrev pub illegalReported : ℕ → ℕ → ℕ → ℕ → Lexeme
+illegalReported r d n reports =
+    record { kind = K.Illegal; reason = r; detail = d; len = n; value = n; size = 0; precision = 0; digits = 0; nanos = pos 0; reports = reports }
+
+-- an Illegal token without one
 abbrev pub illegal : ℕ → ℕ → ℕ → Lexeme
-illegal r d n =
-    record { kind = K.Illegal; reason = r; detail = d; len = n; value = n; size = 0; precision = 0; digits = 0; nanos = pos 0; reports = 0 }
+illegal r d n = illegalReported r d n 0
+
+-- a number of n bytes whose value ends at e, with its precision: the digits after `p`
+abbrev pub precise : TokenKind → ℕ → ℕ → Lexeme
+precise k e n =
+    record { kind = k; reason = reasons.none; detail = 0; len = n; value = 0; size = e; precision = e + 1; digits = n - (e + 1); nanos = pos 0; reports = 0 }
+
+-- a Duration of n bytes and z nanoseconds
+abbrev pub duration : ℕ → ℤ → Lexeme
+duration n z =
+    record { kind = K.Duration; reason = reasons.none; detail = 0; len = n; value = 0; size = n; precision = 0; digits = 0; nanos = z; reports = 0 }
 
 -- a report of a token: its reason, its detail, and how far behind the token's start it stands
 pub record Note : Type 0 where

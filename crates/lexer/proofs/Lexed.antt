@@ -17,7 +17,7 @@ use Rattle.utf8.specs.Grammar.{Boundary, Octets}
 use Rattle.utf8.proofs.Boundaries.{ascii-boundary, boundary-rest}
 use Rattle.go_duration.specs.Written.{SumOfParts}
 use Rattle.go_duration.proofs.WrittenSums.{sum-of-parts}
-use Rattle.token.specs.Kind.{kindNumber, onOneLine}
+use Rattle.token.specs.Kind.{kindNumber, stringNumber, onOneLine}
 use Rattle.token.specs.Place.{Flat}
 use Rattle.token.proofs.KindNumbers.{number-kind}
 use Rattle.token.specs.declared.kind.TokenKind.{TokenKind}
@@ -26,6 +26,7 @@ use Rattle.lexeme.specs.Lexeme.{bare, whole, Note}
 use Rattle.lexeme.specs.declared.Lexeme.{Lexeme}
 use Rattle.lexeme.specs.declared.Mode.{Mode}
 use Rattle.lexeme.specs.declared.Mode.the-variants.{Strict, Tolerant}
+use Rattle.lexeme.proofs.Notes.{NotesIn, none, more}
 use Rattle.lexeme.proofs.Within.{Within}
 use Rattle.scan.specs.Comment.{lexLineComment, bodyEnd, openComment, lexBlockComment, blockNotes}
 use Rattle.scan.specs.Name.{lexIdent, lexDirective}
@@ -53,11 +54,6 @@ use Rattle.lexer.specs.declared.class.Class.{Class}
 use Rattle.lexer.specs.declared.class.Class.the-variants as C
 use Rattle.lexer.proofs.Knows.{Knows, Mark, lBrace, rBrace, lBracket, rBracket, lParen, rParen, equals, colon, comma, knows-at}
 
--- each report of a list stands within n bytes of the token's start
-pub data NotesIn (n : ℕ) : List Note → Type 0 where
-  none : NotesIn n []
-  more : {x : Note} {xs : List Note} → x .offset ≤ n → NotesIn n xs → NotesIn n (x ∷ xs)
-
 notes-all : (n : ℕ) (xs : List Note) → ((x : Note) → List·Memᴰ x xs → x .offset ≤ n) → NotesIn n xs
 notes-all n [] f = none
 notes-all n (x ∷ xs) f = more (f x (List·Memᴰ·head refl)) (notes-all n xs (λ y i. f y (List·Memᴰ·tail i)))
@@ -77,7 +73,7 @@ pub record Facts (s : List ℕ) (r : Lexeme) (bytes : List ℕ) (ns : List Note)
 -- a kind that is no String lays nothing into the string buffer
 other-size : (k : TokenKind) (n : ℕ) → (k ≡ K.String → ⊥) → stringSize k n ≡ 0
 unfolding stringSize
-other-size k n f = rw (ne-eqb (kindNumber k) 5 (λ e. f (number-kind k 5 e)))
+other-size k n f = rw (ne-eqb (kindNumber k) stringNumber (λ e. f (number-kind k stringNumber e)))
 
 string-is : (k : TokenKind) (n : ℕ) → k ≡ K.String → stringSize k n ≡ n
 unfolding stringSize kindNumber

@@ -10,13 +10,16 @@ use lib.Seq.{drop-cons}
 use borrow.Author.Tests.{eqb-true, ne-eqb}
 use Rattle.base.specs.Bytes.{byte}
 use Rattle.base.proofs.Tests.{in-text, pick-case}
-use Rattle.token.specs.Kind.{kindNumber}
+use Rattle.token.specs.Kind.{kindNumber, isNewline}
 use Rattle.token.specs.Place.{placeAt, stepPlace, Walkable, Steppable}
 use Rattle.token.specs.declared.kind.TokenKind.{TokenKind}
 use Rattle.token.specs.declared.place.Place.{Place}
 use Rattle.token.proofs.Places.{place-step, place-steppable}
 use Rattle.lexeme.specs.declared.Lexeme.{Lexeme}
 use Rattle.lexeme.specs.declared.Mode.{Mode}
+use Rattle.lexer.specs.Reading.{modeOf, lexemeIn}
+use Rattle.lexer.specs.declared.reading.Reading.{Reading}
+use Rattle.token.proofs.KindNumbers.{IsEof}
 use Rattle.lexer.specs.Token.{foundFrom, placed, tokenOf, Placing}
 use Rattle.lexer.proofs.Founds.{here-placing, here-token}
 use Rattle.lexer.specs.Lexer.{markOf, markLexeme, classOf, classAt, lexBy, lexemeOf}
@@ -24,7 +27,7 @@ use Rattle.lexer.specs.Lexer.{markOf, markLexeme, classOf, classAt, lexB
 module _ (m : Mode) (limit : ℕ) (a : ℕ) (s : List ℕ) where
   -- where the kind is no Eof, the token at the front is the mark of the kind
   Marked : TokenKind → Type 0
-  Marked k = (kindNumber k ≡ 0 → ⊥) → lexemeOf m limit (a ∷ s) ≡ markLexeme k
+  Marked k = (IsEof k → ⊥) → lexemeOf m limit (a ∷ s) ≡ markLexeme k
 
   is : (n : ℕ) {x : Lexeme} → eqb a n ≡ true → lexBy (classAt (n ∷ s)) m limit (n ∷ s) ≡ x → lexemeOf m limit (a ∷ s) ≡ x
   unfolding lexemeOf
@@ -45,22 +48,22 @@ module _ (m : Mode) (limit : ℕ) (a : ℕ) (s : List ℕ) where
       (λ _. pick-case Marked (eqb a 44) (λ e _. is 44 e refl) (λ _ n. absurd (n refl)))))))))))
 
 -- a byte of the text that is a mark is one of its bytes, and the token that starts with it
-module _ (text : List ℕ) (i : ℕ) (n : kindNumber (markOf (byte text i)) ≡ 0 → ⊥) where
+module _ (text : List ℕ) (i : ℕ) (n : IsEof (markOf (byte text i)) → ⊥) where
   pub mark-in : i < length text
   unfolding markOf kindNumber
   mark-in = in-text (λ a. not (eqb (kindNumber (markOf a)) 0)) text i refl (rw (ne-eqb (kindNumber (markOf (byte text i))) 0 n))
 
-  pub mark-is : (m : Mode) (limit : ℕ) → lexemeOf m limit (drop i text) ≡ markLexeme (markOf (byte text i))
-  unfolding Marked
-  mark-is m limit = rw (drop-cons text i 0 mark-in) (front m limit (byte text i) (drop (suc i) text) n)
+  pub mark-is : (m : Reading) (limit : ℕ) → lexemeIn m limit (drop i text) ≡ markLexeme (markOf (byte text i))
+  unfolding Marked lexemeIn
+  mark-is m limit = rw (drop-cons text i 0 mark-in) (front (modeOf m) limit (byte text i) (drop (suc i) text) n)
 
 -- a mark is one byte
 pub mark-len : (k : TokenKind) → markLexeme k .len ≡ 1
 unfolding markLexeme
-mark-len k = pick-case (λ (x : Lexeme). x .len ≡ 1) (eqb (kindNumber k) 2) (λ _. refl) (λ _. refl)
+mark-len k = pick-case (λ (x : Lexeme). x .len ≡ 1) (isNewline k) (λ _. refl) (λ _. refl)
 
 -- the mark that stands at a place of the text
-module _ (m : Mode) (limit : ℕ) (text : List ℕ) (p : Place) (w : Walkable text p (p .offset)) (n : kindNumber (markOf (byte text (p .offset))) ≡ 0 → ⊥) where
+module _ (m : Reading) (limit : ℕ) (text : List ℕ) (p : Place) (w : Walkable text p (p .offset)) (n : IsEof (markOf (byte text (p .offset))) → ⊥) where
   pub mark-steppable : Steppable p
   mark-steppable = place-steppable text (p .offset) p (w .true-place) (mark-in text (p .offset) n) (w .short)
 

@@ -15,6 +15,7 @@ use Rattle.base.specs.Bytes.{byte}
 use Rattle.base.proofs.Tests.{and-left, and-right, true-false}
 use Rattle.token.specs.Place.{placeAt, Walkable}
 use Rattle.token.specs.Layout.{reportWidth, reportNumbers, ReportFits}
+use Rattle.token.specs.Reason as reasons
 use Rattle.token.specs.declared.place.Place.{Place}
 use Rattle.lexeme.specs.Lexeme.{noteAtStart}
 use Rattle.lexeme.specs.Reports.{reportAt, reportOf, notesNumbers}
@@ -35,7 +36,9 @@ use Rattle.triple_strings.specs.Triple.{quotes, closed, rawBytes, tripleBytes, 
 use Rattle.triple_strings.proofs.Triples.{triple-size, triple-bytes}
 use Rattle.lexer.specs.Lexer as lexer
 use Rattle.lexer.specs.Lexer.{classOf, classAt, lexBy, lexemeOf, stringBy, stringOf, notesOf}
+use Rattle.lexer.specs.Reading.{modeOf, lexemeIn, stringIn, notesIn}
 use Rattle.lexer.specs.Token.{ReportRoom}
+use Rattle.lexer.specs.declared.reading.Reading.{Reading}
 use Rattle.lexer.specs.declared.class.Class.{Class}
 use Rattle.lexer.specs.declared.class.Class.the-variants as C
 use Rattle.lexer.proofs.Knows.{Knows, knows-at}
@@ -69,26 +72,26 @@ string-class m s C.Number h = absurd (omega arith)
 string-class m s C.Name h = absurd (omega arith)
 string-class m s C.Other h = absurd (omega arith)
 
-module _ (m : Mode) (s : List ℕ) (h : 0 < length (stringOf m s)) where
+module _ (r : Reading) (s : List ℕ) (h : 0 < length (stringIn r s)) where
   -- something stands there
   pub string-in : 0 < length s
-  unfolding stringOf
+  unfolding stringIn stringOf
   string-in = go (length s) refl h
     where
-      go : (n : ℕ) → length s ≡ n → 0 < length (stringOf m s) → 0 < length s
-      go zero e l = absurd (omega (arith, ap (λ (k : ℕ). length (pick (eqb k 0) [] (stringBy (classAt s) m s))) e))
+      go : (n : ℕ) → length s ≡ n → 0 < length (stringIn r s) → 0 < length s
+      go zero e l = absurd (omega (arith, ap (λ (k : ℕ). length (pick (eqb k 0) [] (stringBy (classAt s) (modeOf r) s))) e))
       go (suc n) e l = omega arith
 
-  by-class : stringOf m s ≡ stringBy (classAt s) m s
-  unfolding stringOf
+  by-class : stringIn r s ≡ stringBy (classAt s) (modeOf r) s
+  unfolding stringIn stringOf
   by-class = rw (ne-eqb (length s) 0 (λ e. absurd (omega (arith, string-in))))
 
-  pub triple-value : quotes s ≡ true → stringOf m s ≡ dedent (rawBytes s)
+  pub triple-value : quotes s ≡ true → stringIn r s ≡ dedent (rawBytes s)
   unfolding stringBy
   triple-value q =
-      let e : stringOf m s ≡ tripleBytes m s = by-class ∙ ap (λ (k : Class). stringBy k m s) (triple-class s q) in
+      let e : stringIn r s ≡ tripleBytes (modeOf r) s = by-class ∙ ap (λ (k : Class). stringBy k (modeOf r) s) (triple-class s q) in
       e
-      ∙ ⊎-elim (λ k. triple-bytes m s k) (λ k. absurd (omega (arith, h, ap length (e ∙ triple-size m s .illegal-none k)))) (triple-kind m s)
+      ∙ ⊎-elim (λ k. triple-bytes (modeOf r) s k) (λ k. absurd (omega (arith, h, ap length (e ∙ triple-size (modeOf r) s .illegal-none k)))) (triple-kind (modeOf r) s)
 
   quote-class : quotes s ≡ false → classAt s ≡ C.Quote
   unfolding quotes
@@ -97,25 +100,25 @@ module _ (m : Mode) (s : List ℕ) (h : 0 < length (stringOf m s)) where
       (λ k.
       let w = subst (Knows (byte s 0) (byte s 1) (byte s 2)) k (knows-at s) in
       true-false (quotes s) (rw (w .0, w .1 .0, w .1 .1)) q)
-      (λ k. k) (string-class m s (classAt s) (rw by-class at h))
+      (λ k. k) (string-class (modeOf r) s (classAt s) (rw by-class at h))
 
-  pub literal-value : quotes s ≡ false → stringOf m s ≡ literalOf m s .bytes
+  pub literal-value : quotes s ≡ false → stringIn r s ≡ literalOf (modeOf r) s .bytes
   unfolding stringBy
   literal-value q =
-      let e : stringOf m s ≡ stringBytes m s = by-class ∙ ap (λ (k : Class). stringBy k m s) (quote-class q) in
-      e ∙ ⊎-elim (λ k. string-bytes m s k) (λ k. absurd (omega (arith, h, ap length (e ∙ illegal-bytes m s k)))) (string-kind m s)
+      let e : stringIn r s ≡ stringBytes (modeOf r) s = by-class ∙ ap (λ (k : Class). stringBy k (modeOf r) s) (quote-class q) in
+      e ∙ ⊎-elim (λ k. string-bytes (modeOf r) s k) (λ k. absurd (omega (arith, h, ap length (e ∙ illegal-bytes (modeOf r) s k)))) (string-kind (modeOf r) s)
 
   -- its length and its size are those of the literal
-  pub literal-sized : quotes s ≡ false → (limit : ℕ) → Sized m s (lexemeOf m limit s .len) (length (stringOf m s))
-  unfolding lexemeOf lexBy stringBy
+  pub literal-sized : quotes s ≡ false → (limit : ℕ) → Sized (modeOf r) s (lexemeIn r limit s .len) (length (stringIn r s))
+  unfolding lexemeIn lexemeOf lexBy stringBy
   literal-sized q limit =
-      let e : lexemeOf m limit s ≡ lexString m s = rw (ne-eqb (length s) 0 (λ z. absurd (omega (arith, string-in))), quote-class q) in
-      let v : stringOf m s ≡ stringBytes m s = by-class ∙ ap (λ (k : Class). stringBy k m s) (quote-class q) in
+      let e : lexemeIn r limit s ≡ lexString (modeOf r) s = rw (ne-eqb (length s) 0 (λ z. absurd (omega (arith, string-in))), quote-class q) in
+      let v : stringIn r s ≡ stringBytes (modeOf r) s = by-class ∙ ap (λ (k : Class). stringBy k (modeOf r) s) (quote-class q) in
       ⊎-elim
       (λ k.
-      let z = string-sized m s k in
+      let z = string-sized (modeOf r) s k in
       record { count = ap length (sym (literal-value q)); stop = z .stop ∙ ap (λ (x : Lexeme). x .len) (sym e); closed = z .closed })
-      (λ k. absurd (omega (arith, h, ap length (v ∙ illegal-bytes m s k)))) (string-kind m s)
+      (λ k. absurd (omega (arith, h, ap length (v ∙ illegal-bytes (modeOf r) s k)))) (string-kind (modeOf r) s)
 
 -- ---- the reports
 
@@ -126,23 +129,23 @@ unfolding notesNumbers reportOf
 start-numbers text p r e = rw (add-zero (p .offset)) (ap (λ (q : Place). reportNumbers (reportAt q r 0)) (sym e))
 
 -- a report at a place of a text that is read has small numbers
-pub start-fits : (text : List ℕ) (p : Place) (r : ℕ) → Walkable text p (p .offset) → r ≤ 20 → ReportFits (reportAt p r 0)
+pub start-fits : (text : List ℕ) (p : Place) (r : ℕ) → Walkable text p (p .offset) → r ≤ reasons.last → ReportFits (reportAt p r 0)
 start-fits text p r w h = report-fits text (p .offset) p r 0 (w .true-place) (w .inside) (w .short) h (omega arith)
 
-block-one : (m : Mode) (s : List ℕ) → 0 < length (blockNotes m s) → blockNotes m s ≡ noteAtStart 2 ∷ []
+block-one : (m : Mode) (s : List ℕ) → 0 < length (blockNotes m s) → blockNotes m s ≡ noteAtStart reasons.openBlockComment ∷ []
 unfolding blockNotes
 block-one m s h = go (ltb (bodyEnd s) (length s)) m h
   where
-    go : (b : Bool) (n : Mode) → 0 < length (pick b [] (comment.openNotes n)) → pick b [] (comment.openNotes n) ≡ noteAtStart 2 ∷ []
+    go : (b : Bool) (n : Mode) → 0 < length (pick b [] (comment.openNotes n)) → pick b [] (comment.openNotes n) ≡ noteAtStart reasons.openBlockComment ∷ []
     go true n l = absurd (omega arith)
     go false Strict l = absurd (omega arith)
     go false Tolerant l = refl
 
-triple-one : (m : Mode) (s : List ℕ) → 0 < length (tripleNotes m s) → tripleNotes m s ≡ noteAtStart 12 ∷ []
+triple-one : (m : Mode) (s : List ℕ) → 0 < length (tripleNotes m s) → tripleNotes m s ≡ noteAtStart reasons.openTripleString ∷ []
 unfolding tripleNotes
 triple-one m s h = go (closed s) m h
   where
-    go : (b : Bool) (n : Mode) → 0 < length (pick b [] (literal.openNotes n)) → pick b [] (literal.openNotes n) ≡ noteAtStart 12 ∷ []
+    go : (b : Bool) (n : Mode) → 0 < length (pick b [] (literal.openNotes n)) → pick b [] (literal.openNotes n) ≡ noteAtStart reasons.openTripleString ∷ []
     go true n l = absurd (omega arith)
     go false Strict l = absurd (omega arith)
     go false Tolerant l = refl
@@ -155,7 +158,7 @@ bytes-one Tolerant (stop.Closed n) l = absurd (omega arith)
 bytes-one Tolerant (stop.Newline n) l = refl
 bytes-one Tolerant (stop.Open n) l = refl
 
-pub stop-small : (e : Stop) → stopReason e ≤ 20
+pub stop-small : (e : Stop) → stopReason e ≤ reasons.last
 unfolding stopReason
 stop-small (stop.Over n) = lit≤ tt
 stop-small (stop.Closed n) = lit≤ tt
@@ -183,13 +186,13 @@ noting m limit s C.Number h = absurd (omega arith)
 noting m limit s C.Name h = absurd (omega arith)
 noting m limit s C.Other h = absurd (omega arith)
 
-module _ (m : Mode) (limit : ℕ) (text : List ℕ) (p : Place) (room at : ℕ) (q : ReportRoom m limit text p room at) where
+module _ (r : Reading) (limit : ℕ) (text : List ℕ) (p : Place) (room at : ℕ) (q : ReportRoom r limit text p room at) where
   not-end : 0 < length (drop (p .offset) text)
-  unfolding notesOf
+  unfolding notesIn notesOf
   not-end = go (length (drop (p .offset) text)) refl (q .some)
     where
-      go : (n : ℕ) → length (drop (p .offset) text) ≡ n → 0 < length (notesOf m limit (drop (p .offset) text)) → 0 < length (drop (p .offset) text)
-      go zero e l = absurd (omega (arith, ap (λ (k : ℕ). length (pick (eqb k 0) [] (lexer.notesBy (classAt (drop (p .offset) text)) m limit (drop (p .offset) text)))) e))
+      go : (n : ℕ) → length (drop (p .offset) text) ≡ n → 0 < length (notesIn r limit (drop (p .offset) text)) → 0 < length (drop (p .offset) text)
+      go zero e l = absurd (omega (arith, ap (λ (k : ℕ). length (pick (eqb k 0) [] (lexer.notesBy (classAt (drop (p .offset) text)) (modeOf r) limit (drop (p .offset) text)))) e))
       go (suc n) e l = omega arith
 
   pub notes-in-text : p .offset < length text
@@ -198,16 +201,16 @@ module _ (m : Mode) (limit : ℕ) (text : List ℕ) (p : Place) (room at : ℕ) 
   abbrev rest : List ℕ
   rest = drop (p .offset) text
 
-  notes-by : notesOf m limit rest ≡ lexer.notesBy (classAt rest) m limit rest
-  unfolding notesOf
+  notes-by : notesIn r limit rest ≡ lexer.notesBy (classAt rest) (modeOf r) limit rest
+  unfolding notesIn notesOf
   notes-by = rw (ne-eqb (length rest) 0 (λ z. absurd (omega (arith, z, not-end))))
 
-  some-by : (k : Class) → classAt rest ≡ k → 0 < length (lexer.notesBy k m limit rest)
+  some-by : (k : Class) → classAt rest ≡ k → 0 < length (lexer.notesBy k (modeOf r) limit rest)
   some-by k e = rw (← e, ← notes-by) (q .some)
 
   -- the class by the byte at the front
   by-byte : (k : Class) → classAt rest ≡ k → Noting k
-  by-byte k e = noting m limit rest k (some-by k e)
+  by-byte k e = noting (modeOf r) limit rest k (some-by k e)
 
   block-class : byte rest 0 ≡ 47 → classAt rest ≡ C.BlockComment
   block-class a = go (classAt rest) (by-byte (classAt rest) refl) (knows-at rest)
@@ -237,28 +240,28 @@ module _ (m : Mode) (limit : ℕ) (text : List ℕ) (p : Place) (room at : ℕ) 
       go C.Bytes bytes w = absurd (b (w .0))
       go C.Quote quote w = refl
 
-  pub block-report : byte rest 0 ≡ 47 → notesOf m limit rest ≡ noteAtStart 2 ∷ []
+  pub block-report : byte rest 0 ≡ 47 → notesIn r limit rest ≡ noteAtStart reasons.openBlockComment ∷ []
   unfolding lexer.notesBy
   block-report a =
       let z = block-class a in
-      notes-by ∙ rw z (block-one m rest (some-by C.BlockComment z))
+      notes-by ∙ rw z (block-one (modeOf r) rest (some-by C.BlockComment z))
 
-  pub triple-report : quotes rest ≡ true → notesOf m limit rest ≡ noteAtStart 12 ∷ []
+  pub triple-report : quotes rest ≡ true → notesIn r limit rest ≡ noteAtStart reasons.openTripleString ∷ []
   unfolding lexer.notesBy
   triple-report a =
       let z = triple-class rest a in
-      notes-by ∙ rw z (triple-one m rest (some-by C.Triple z))
+      notes-by ∙ rw z (triple-one (modeOf r) rest (some-by C.Triple z))
 
-  pub bytes-report : byte rest 0 ≡ 98 → notesOf m limit rest ≡ noteAtStart (stopReason (bytesStop limit 0 (drop 2 rest))) ∷ []
+  pub bytes-report : byte rest 0 ≡ 98 → notesIn r limit rest ≡ noteAtStart (stopReason (bytesStop limit 0 (drop 2 rest))) ∷ []
   unfolding lexer.notesBy bytesNotes
   bytes-report a =
       let z = bytes-class a in
-      notes-by ∙ rw z (bytes-one m (bytesStop limit 0 (drop 2 rest)) (some-by C.Bytes z))
+      notes-by ∙ rw z (bytes-one (modeOf r) (bytesStop limit 0 (drop 2 rest)) (some-by C.Bytes z))
 
-  pub quote-report : (byte rest 0 ≡ 47 → ⊥) → (byte rest 0 ≡ 98 → ⊥) → quotes rest ≡ false → notesOf m limit rest ≡ stringNotes m rest
+  pub quote-report : (byte rest 0 ≡ 47 → ⊥) → (byte rest 0 ≡ 98 → ⊥) → quotes rest ≡ false → notesIn r limit rest ≡ stringNotes (modeOf r) rest
   unfolding lexer.notesBy
   quote-report a b c = notes-by ∙ rw (literal-class a b c)
 
   -- room for one report
-  pub one-room : (r : ℕ) → notesOf m limit rest ≡ noteAtStart r ∷ [] → at + reportWidth ≤ room
-  one-room r e = omega (arith, q .fits, notes-length text (p .offset) (notesOf m limit rest), ap length e)
+  pub one-room : (k : ℕ) → notesIn r limit rest ≡ noteAtStart k ∷ [] → at + reportWidth ≤ room
+  one-room k e = omega (arith, q .fits, notes-length text (p .offset) (notesIn r limit rest), ap length e)

@@ -9,7 +9,7 @@ use Rattle.base.specs.Choice.{pick}
 use Rattle.base.specs.Bytes.{byte}
 use Rattle.base.specs.Classes.{isDigit, isIdentStart}
 use Rattle.utf8.specs.Grammar.{Octets}
-use Rattle.token.specs.Kind.{kindNumber}
+use Rattle.token.specs.Kind.{isNewline}
 use Rattle.token.specs.declared.kind.TokenKind.{TokenKind}
 use Rattle.token.specs.declared.kind.TokenKind.the-variants as K
 use Rattle.lexeme.specs.Lexeme.{whole, bare, Note}
@@ -41,7 +41,7 @@ markOf a =
 
 -- the token of a mark: a newline has no value, any other mark is its own
 unfoldable pub markLexeme : TokenKind → Lexeme
-markLexeme k = pick (eqb (kindNumber k) 2) (bare k 1) (whole k 1)
+markLexeme k = pick (isNewline k) (bare k 1) (whole k 1)
 
 -- what the first three bytes choose, in the order of `next_token`
 unfoldable pub classOf : ℕ → ℕ → ℕ → Class

@@ -8,14 +8,14 @@ use lib.ListN.{length, drop}
 use Rattle.base.specs.Choice.{pick}
 use Rattle.base.specs.Classes.{isSpace}
 use Rattle.base.specs.Runs.{reach}
-use Rattle.token.specs.Kind.{kindNumber, onOneLine}
+use Rattle.token.specs.Kind.{isString, onOneLine}
 use Rattle.token.specs.Place.{placeAt, Flat, Walkable}
 use Rattle.token.specs.declared.place.Place.{Place}
 use Rattle.token.specs.declared.kind.TokenKind.{TokenKind}
 use Rattle.lexeme.specs.declared.Lexeme.{Lexeme}
-use Rattle.lexeme.specs.declared.Mode.{Mode}
 use Rattle.lexeme.specs.Reports.{notesNumbers}
-use Rattle.lexer.specs.Lexer.{lexemeOf, stringOf, notesOf}
+use Rattle.lexer.specs.Reading.{lexemeIn, stringIn, notesIn}
+use Rattle.lexer.specs.declared.reading.Reading.{Reading}
 use Rattle.lexer.specs.declared.next.Found.{Found}
 use Rattle.lexer.specs.declared.next.Token.{Token}
 
@@ -28,11 +28,11 @@ unfoldable pub startAt : List ℕ → ℕ → ℕ
 startAt text at = reach inBlanks text at
 
 -- the token that starts at an offset, relative to it
-abbrev pub foundFrom : Mode → ℕ → List ℕ → ℕ → Found
-foundFrom m limit text i = record { start = i; lexeme = lexemeOf m limit (drop i text) }
+abbrev pub foundFrom : Reading → ℕ → List ℕ → ℕ → Found
+foundFrom m limit text i = record { start = i; lexeme = lexemeIn m limit (drop i text) }
 
 -- the token after an offset, relative to its start
-unfoldable pub foundAt : Mode → ℕ → List ℕ → ℕ → Found
+unfoldable pub foundAt : Reading → ℕ → List ℕ → ℕ → Found
 foundAt m limit text at = foundFrom m limit text (startAt text at)
 
 -- where it ends
@@ -60,7 +60,7 @@ placed i start end x =
 abbrev pub tokenOf : List ℕ → Found → Token
 tokenOf text f = placed (f .start) (placeAt text (f .start)) (placeAt text (endOf f)) (f .lexeme)
 
-unfoldable pub nextToken : Mode → ℕ → List ℕ → ℕ → Token
+unfoldable pub nextToken : Reading → ℕ → List ℕ → ℕ → Token
 nextToken m limit text at = tokenOf text (foundAt m limit text at)
 
 -- a place of the text at which a token of the kind starts, which has so many bytes
@@ -73,23 +73,19 @@ pub record Placing (start : Place) (x : Lexeme) : Type 0 where
   pub value : start .offset + x .value < 0x8000000000000000
   pub precision : start .offset + x .precision < 0x8000000000000000
 
--- the kind's number is String's
-abbrev pub isString : TokenKind → Bool
-isString k = eqb (kindNumber k) 5
-
 -- how many bytes a token of the kind and value length lays into the string buffer
 unfoldable pub stringSize : TokenKind → ℕ → ℕ
 stringSize k n = pick (isString k) n 0
 
 -- a String that has bytes stands at the front of the list; it takes len bytes of it, under some limit, and stands for size bytes
-pub record StringFront (m : Mode) (s : List ℕ) (len size : ℕ) : Type 0 where
-  pub some : 0 < length (stringOf m s)
-  pub counted : length (stringOf m s) ≡ size
+pub record StringFront (m : Reading) (s : List ℕ) (len size : ℕ) : Type 0 where
+  pub some : 0 < length (stringIn m s)
+  pub counted : length (stringIn m s) ≡ size
   pub limit : ℕ
-  pub ends : lexemeOf m limit s .len ≡ len
+  pub ends : lexemeIn m limit s .len ≡ len
 
 -- a place of a text that is read, at which a token with reports starts, and room for these
-pub record ReportRoom (m : Mode) (limit : ℕ) (text : List ℕ) (start : Place) (room at : ℕ) : Type 0 where
+pub record ReportRoom (m : Reading) (limit : ℕ) (text : List ℕ) (start : Place) (room at : ℕ) : Type 0 where
   pub walkable : Walkable text start (start .offset)
-  pub some : 0 < length (notesOf m limit (drop (start .offset) text))
-  pub fits : at + length (notesNumbers text (start .offset) (notesOf m limit (drop (start .offset) text))) ≤ room
+  pub some : 0 < length (notesIn m limit (drop (start .offset) text))
+  pub fits : at + length (notesNumbers text (start .offset) (notesIn m limit (drop (start .offset) text))) ≤ room

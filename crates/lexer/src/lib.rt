@@ -3,3 +3,4 @@ pub mod class;
 pub mod lex;
 pub mod next;
 pub mod put;
+pub mod reading;

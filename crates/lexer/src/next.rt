@@ -9,10 +9,10 @@ ghost use Rattle.token.specs.Place.{placeAt, Walkable};
 ghost use Rattle.lexer.specs.Lexer.{markLexeme};
 ghost use Rattle.lexer.specs.Token.{startAt, foundFrom, foundAt, placed, tokenOf, nextToken, Ending, Placing, stringSize};
 use crate::class::mark;
-use crate::lex::lex_one;
+use crate::reading::Reading;
+use crate::reading::lex_in;
 use base::peek;
 use lexeme::Lexeme;
-use lexeme::Mode;
 use scan::run::Run;
 use scan::run::reach_run;
 use token::kind::TokenKind;
@@ -52,24 +52,24 @@ pub fn skip_spaces(text: &[u8], at: usize) -> usize
 fn mark_lexeme(kind: TokenKind) -> Lexeme
     ensures { λ r. ⌜ r ≡ markLexeme kind ⌝ }
 {
-    if kind.number() == 2 {
+    if kind.is_newline() {
         return lexeme::bare(kind, 1);
     }
     lexeme::whole(kind, 1)
 }
 
 // The token after an offset, relative to its start. Most tokens are marks, which need no lexer.
-pub fn next_lexeme(text: &[u8], at: usize, mode: Mode, limit: usize) -> Found
+pub fn next_lexeme(text: &[u8], at: usize, mode: Reading, limit: usize) -> Found
     requires { ⌜ (at ≤ length (now text)) × Octets (now text) ⌝ }
     ensures { λ r. ⌜ r ≡ foundAt mode limit (now (text .entry)) at ⌝ }
 {
     let start = skip_spaces(text, at);
     let kind = mark(peek(text, start));
-    if kind.number() != 0 {
+    if !kind.is_eof() {
         let lexeme = mark_lexeme(kind);
         return Found { start, lexeme };
     }
-    let lexeme = lex_one(&text[start..], mode, limit);
+    let lexeme = lex_in(&text[start..], mode, limit);
     Found { start, lexeme }
 }
 
@@ -153,19 +153,19 @@ fn placed(start: Place, end: Place, x: Lexeme) -> Token
 }
 
 // The token that starts at a place, after the blanks.
-fn token_from(text: &[u8], start: Place, mode: Mode, limit: usize) -> Token
+fn token_from(text: &[u8], start: Place, mode: Reading, limit: usize) -> Token
     requires { ⌜ Walkable (now text) start (start .offset) × Octets (now text) ⌝ }
     ensures { λ r. ⌜ r ≡ tokenOf (now (text .entry)) (foundFrom mode limit (now (text .entry)) (start .offset)) ⌝ }
 {
     let first = start.offset;
-    let x = lex_one(&text[first..], mode, limit);
+    let x = lex_in(&text[first..], mode, limit);
     let kind = x.kind;
     let end = end_place(text, start, kind, x.len);
     placed(start, end, x)
 }
 
 // The token after a place of the text, with its places.
-pub fn next_token(text: &[u8], place: Place, mode: Mode, limit: usize) -> Token
+pub fn next_token(text: &[u8], place: Place, mode: Reading, limit: usize) -> Token
     requires { ⌜ Walkable (now text) place (place .offset) × Octets (now text) ⌝ }
     ensures { λ r. ⌜ r ≡ nextToken mode limit (now (text .entry)) (place .offset) ⌝ }
 {
@@ -174,7 +174,7 @@ pub fn next_token(text: &[u8], place: Place, mode: Mode, limit: usize) -> Token
 
 // The same, for the loop that reads all tokens: most are marks, which need no lexer and no search for newlines. Called from that loop alone, it
 // becomes a part of it, and the token stays in registers.
-pub fn each_token(text: &[u8], place: Place, mode: Mode, limit: usize) -> Token
+pub fn each_token(text: &[u8], place: Place, mode: Reading, limit: usize) -> Token
     requires { ⌜ Walkable (now text) place (place .offset) × Octets (now text) ⌝ }
     ensures { λ r. ⌜ r ≡ nextToken mode limit (now (text .entry)) (place .offset) ⌝ }
 {
@@ -182,7 +182,7 @@ pub fn each_token(text: &[u8], place: Place, mode: Mode, limit: usize) -> Token
     let first = start.offset;
     let b = peek(text, first);
     let kind = mark(b);
-    if kind.number() != 0 {
+    if !kind.is_eof() {
         return placed(start, start.step(b), mark_lexeme(kind));
     }
     token_from(text, start, mode, limit)
@@ -192,7 +192,7 @@ pub fn each_token(text: &[u8], place: Place, mode: Mode, limit: usize) -> Token
 pub fn string_size(kind: TokenKind, size: usize) -> usize
     ensures { λ r. ⌜ r ≡ stringSize kind size ⌝ }
 {
-    if kind.number() == 5 {
+    if kind.is_string() {
         return size;
     }
     0

@@ -5,35 +5,37 @@ ghost use lib.ListN.{length, drop};
 ghost use lib.Seq.{sets};
 ghost use Rattle.token.specs.Layout.{reportWidth};
 ghost use Rattle.token.specs.Place.{Walkable};
+ghost use Rattle.token.specs.Reason as reasons;
 ghost use Rattle.lexeme.specs.Lexeme.{noteAtStart};
 ghost use Rattle.lexeme.specs.Reports.{notesNumbers};
 ghost use mathlib.Core.List.{[], _∷_};
-ghost use Rattle.lexer.specs.Lexer.{stringOf, notesOf};
+ghost use Rattle.lexer.specs.Reading.{stringIn, notesIn};
 ghost use Rattle.lexer.specs.Token.{StringFront, ReportRoom};
+use crate::reading::Reading;
 use base::peek;
-use lexeme::Mode;
 use lexeme::put_report;
 use scan::bytes::bytes_reason;
 use strings::notes::put_string_notes;
 use token::place::Place;
+use token::reason;
 use triple_strings::lex::put_triple_string;
 use triple_strings::quotes::at_quotes;
 
 // Writes the decoded bytes of the String at the front of a text, which takes `len` bytes and stands for `size` bytes.
-pub fn put_string(s: &[u8], mode: Mode, len: usize, size: usize, out: &mut [u8], place: usize)
+pub fn put_string(s: &[u8], mode: Reading, len: usize, size: usize, out: &mut [u8], place: usize)
     requires { ⌜ StringFront mode (now s) len size × (place + size ≤ length (now out)) ⌝ }
-    ensures { λ r. ⌜ now (out .exit) ≡ sets (now (out .entry)) place (stringOf mode (now (s .entry))) ⌝ }
+    ensures { λ r. ⌜ now (out .exit) ≡ sets (now (out .entry)) place (stringIn mode (now (s .entry))) ⌝ }
 {
     if at_quotes(s) {
         put_triple_string(s, out, place);
         return;
     }
-    strings::lex::put_string(s, mode, len, size, out, place);
+    strings::lex::put_string(s, mode.mode(), len, size, out, place);
 }
 
 // Writes a report at the place where a token starts.
 fn put_at_start(text: &[u8], start: Place, reason: usize, out: &mut [i64], at: usize)
-    requires { ⌜ Walkable (now text) start (start .offset) × (reason ≤ 20) × (at + reportWidth ≤ length (now out)) ⌝ }
+    requires { ⌜ Walkable (now text) start (start .offset) × (reason ≤ reasons.last) × (at + reportWidth ≤ length (now out)) ⌝ }
     ensures { λ r. ⌜ now (out .exit) ≡ sets (now (out .entry)) at (notesNumbers (now (text .entry)) (start .offset) (noteAtStart reason ∷ [])) ⌝ }
 {
     put_report(start, reason, 0, out, at);
@@ -41,15 +43,22 @@ fn put_at_start(text: &[u8], start: Place, reason: usize, out: &mut [i64], at: u
 
 // Writes the reports of the token that starts at a place of the text, of which there are some: an open block comment's, an open bytes literal's,
 // an open triple-quoted string's, or those of a string.
-pub fn put_reports(text: &[u8], start: Place, mode: Mode, limit: usize, out: &mut [i64], at: usize)
+pub fn put_reports(
+    text: &[u8],
+    start: Place,
+    mode: Reading,
+    limit: usize,
+    out: &mut [i64],
+    at: usize,
+)
     requires { ⌜ ReportRoom mode limit (now text) start (length (now out)) at ⌝ }
-    ensures { λ r. ⌜ now (out .exit) ≡ sets (now (out .entry)) at (notesNumbers (now (text .entry)) (start .offset) (notesOf mode limit (drop (start .offset) (now (text .entry))))) ⌝ }
+    ensures { λ r. ⌜ now (out .exit) ≡ sets (now (out .entry)) at (notesNumbers (now (text .entry)) (start .offset) (notesIn mode limit (drop (start .offset) (now (text .entry))))) ⌝ }
 {
     let first = start.offset;
     let s = &text[first..];
     let a = peek(s, 0);
     if a == b'/' {
-        put_at_start(text, start, 2, out, at);
+        put_at_start(text, start, reason::OPEN_BLOCK_COMMENT, out, at);
         return;
     }
     if a == b'b' {
@@ -58,8 +67,8 @@ pub fn put_reports(text: &[u8], start: Place, mode: Mode, limit: usize, out: &mu
         return;
     }
     if at_quotes(s) {
-        put_at_start(text, start, 12, out, at);
+        put_at_start(text, start, reason::OPEN_TRIPLE_STRING, out, at);
         return;
     }
-    put_string_notes(text, start, mode, out, at);
+    put_string_notes(text, start, mode.mode(), out, at);
 }

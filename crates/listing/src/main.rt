@@ -6,6 +6,12 @@ use libc::STDIN_FILENO;
 use libc::STDOUT_FILENO;
 use listing_lines::Listed;
 use listing_lines::list;
+use token::layout::RECORD_WIDTH;
+
+// The lengths of buffers that hold the tokens of any text of at most 8,192 bytes and their lines, of which none has more than 48 bytes.
+const TOKENS: usize = 8193 * RECORD_WIDTH;
+
+const OUT: usize = 8193 * 48;
 
 // Lists a text in `out`, and gives how many bytes it wrote. The buffers suffice, so none is short.
 fn fill(
@@ -27,10 +33,10 @@ fn fill(
 fn print_listing(text: &[u8])
     requires { ⌜ length (now text) ≤ 8192 ⌝ }
 {
-    let mut tokens = [0i64; 98316];
+    let mut tokens = [0i64; TOKENS];
     let mut strings = [0u8; 8192];
     let mut reports = [0i64; 0];
-    let mut out = [0u8; 393264];
+    let mut out = [0u8; OUT];
     let n = fill(text, &mut tokens, &mut strings, &mut reports, &mut out);
     io::write_all(STDOUT_FILENO, &out[..n]);
 }

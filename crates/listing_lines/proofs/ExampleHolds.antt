@@ -15,17 +15,18 @@ use Rattle.token.specs.Kind.{kindNumber}
 use Rattle.token.specs.Place.{placeAt}
 use Rattle.scan.specs.Run.{inRun, unitPiece}
 use Rattle.scan.specs.Name.{nameKind, lexIdent}
-use Rattle.scan.specs.Number.{withPrecision, pastPoint, pastSign, pastExponent, pastFraction, atDurationUnit, lexDuration}
+use Rattle.scan.specs.Number.{lexPrecision, pastPoint, pastSign, pastExponent, pastFraction, atDurationUnit, lexDuration}
 use Rattle.scan.specs.Number.{valueEnd, lexTail, lexDigits, atInf, lexNumber}
 use Rattle.lexer.specs.Lexer.{classOf, classAt, lexBy, lexemeOf}
+use Rattle.lexer.specs.Reading.{lexemeIn}
 use Rattle.lexer.specs.Token.{startAt, foundAt, nextToken, stringSize}
 use Rattle.notation.specs.Decimal.{digitsOf}
-use Rattle.reading.specs.Tokens.{andThen, tokensFor, tokensFrom, tokens}
+use Rattle.reading.specs.Tokens.{andThen, tokensFor, tokensTo, tokens}
 use Rattle.reading.specs.Buffers.{recordsOf}
 use Rattle.listing_lines.specs.Lines.{lineText, linesOf}
 use Rattle.listing_lines.specs.Listing.{printed}
 use Rattle.listing_lines.specs.Example.{ExampleListed}
 
 pub example-holds : ExampleListed
-unfolding run reach walk past sameBytes isDigit isLowerAlpha isIdentStart isIdentPart isDurationUnit isSpace utf8-char charSize validTo checkOf scaleOf productOf nanosOf addDigit readDigits fracOf fractionNanos units unitOf valueFrom wholeEnd hasPoint fractionStart fractionEnd unitEnd wholeOf partUnit partFraction digitless partOf sumFrom finish unsigned parseOf mul div ofInt toUnsigned kindNumber placeAt inRun unitPiece nameKind lexIdent withPrecision pastPoint pastSign pastExponent pastFraction atDurationUnit lexDuration valueEnd lexTail lexDigits atInf lexNumber classOf classAt lexBy lexemeOf startAt foundAt nextToken stringSize digitsOf andThen tokensFor tokensFrom tokens recordsOf lineText linesOf printed
+unfolding run reach walk past sameBytes isDigit isLowerAlpha isIdentStart isIdentPart isDurationUnit isSpace utf8-char charSize validTo checkOf scaleOf productOf nanosOf addDigit readDigits fracOf fractionNanos units unitOf valueFrom wholeEnd hasPoint fractionStart fractionEnd unitEnd wholeOf partUnit partFraction digitless partOf sumFrom finish unsigned parseOf mul div ofInt toUnsigned kindNumber placeAt inRun unitPiece nameKind lexIdent lexPrecision pastPoint pastSign pastExponent pastFraction atDurationUnit lexDuration valueEnd lexTail lexDigits atInf lexNumber classOf classAt lexBy lexemeOf lexemeIn startAt foundAt nextToken stringSize digitsOf andThen tokensFor tokensTo tokens recordsOf lineText linesOf printed
 example-holds = refl

@@ -11,19 +11,18 @@ use lib.IntN.{ℤ}
 use lib.ListN.{length, drop}
 use lib.Seq.{sets}
 use borrow.Author.Tests.{ltb-true, ltb-false, le-ltb}
-use Rattle.base.specs.Choice.{pick}
-use Rattle.limits.specs.Limits.{maxMessageSize, maxBytesLiteralLength}
-use Rattle.utf8.specs.Check.{checkOf}
-use Rattle.utf8.specs.declared.check.Verdict.{Verdict}
-use Rattle.utf8.specs.declared.check.Verdict.the-variants.{WellFormed, IllFormed}
-use Rattle.lexeme.specs.declared.Mode.the-variants.{Strict}
-use Rattle.reading.specs.Tokens.{tokens}
-use Rattle.reading.specs.Buffers.{recordsOf, recordRows}
-use Rattle.reading.specs.Answers.{afterCheck, readTextAnswer, readTextNumber}
+use Rattle.limits.specs.Limits.{maxBytesLiteralLength}
+use Rattle.lexer.specs.declared.reading.Reading.the-variants.{Strict}
+use Rattle.reading.specs.Buffers.{recordRows, wholeLaid}
+use Rattle.reading.specs.Refusals.{refusalNumber, judgeOf, afterJudge}
+use Rattle.reading.specs.Answers.{readTextAnswer, readTextNumber}
 use Rattle.reading.specs.Calls.{ReadsText}
+use Rattle.reading.specs.declared.judge.Judged.{Judged}
+use Rattle.reading.specs.declared.judge.Judged.the-variants.{Fit, Unfit}
+use Rattle.reading.specs.declared.refusal.Refusal.{Refusal}
 use Rattle.reading.specs.declared.text.ReadText.{ReadText}
 use Rattle.reading.specs.declared.text.ReadText.the-variants as text-is
-use Rattle.reading.proofs.Rows.{records-length}
+use Rattle.reading.proofs.Refusals.{number-some}
 use Rattle.reading.proofs.Uses.{counted}
 use Rattle.listing_lines.specs.Lines.{refusedLine}
 use Rattle.listing_lines.specs.Listing.{tokenLines, listingOf, linesSize, Fills, Untouched, Lists}
@@ -36,11 +35,7 @@ use Rattle.listing_lines.proofs.Lines.{rows-held}
 -- an answer accepts, or its number is not 0
 pub answered : (r : ReadText) → ((n : ℕ) × (s : ℕ) × (k : ℕ) × (r ≡ text-is.Counts n s k)) ⊎ (eqb (readTextNumber r) 0 ≡ false)
 answered (text-is.Counts n s k) = inl (n, s, k, refl)
-answered text-is.TooLong = inr refl
-answered (text-is.NotUtf8 n) = inr refl
-answered text-is.TokensShort = inr refl
-answered text-is.StringsShort = inr refl
-answered text-is.ReportsShort = inr refl
+answered (text-is.Refused x) = inr (number-some x)
 
 module _ {text : List ℕ} {T : List ℤ} {S : List ℕ} {R : List ℤ} {r : ReadText} {T′ : List ℤ} {S′ : List ℕ} {R′ : List ℤ}
     (w : ReadsText Strict maxBytesLiteralLength text T S R r T′ S′ R′) where
@@ -60,21 +55,19 @@ module _ {text : List ℕ} {T : List ℤ} {S : List ℕ} {R : List ℤ} {r : Rea
     -- the lines of the rows that it counts are those of the tokens
     pub rows-are : rowLines n T′ ≡ tokenLines text
     rows-are =
-        let rs = recordsOf 0 (tokens Strict maxBytesLiteralLength text) in
-        let d : T′ ≡ recordRows rs ++ drop (length (recordRows rs)) T = rw e at (w .records) in
-        let q : n ≡ length rs = counted w e .0 ∙ sym (records-length 0 (tokens Strict maxBytesLiteralLength text)) in
-        rw (q, d) (rows-held rs (drop (length (recordRows rs)) T))
+        let rs = wholeLaid Strict maxBytesLiteralLength text .records in
+        let d : T′ ≡ recordRows rs ++ drop (length (recordRows rs)) T = rw e at (w .lays .records) in
+        rw (counted w e .0, d) (rows-held rs (drop (length (recordRows rs)) T))
 
     -- which were counted before
     pub size-is : linesSize text ≡ length (tokenLines text)
     unfolding readTextAnswer linesSize
-    size-is = go (ltb maxMessageSize (length text)) (checkOf text) _ (sym e ∙ w .answer)
+    size-is = go (judgeOf text) _ (sym e ∙ w .answer)
       where
-        go : (b : Bool) (v : Verdict) (x : ReadText) → text-is.Counts n s k ≡ pick b text-is.TooLong (afterCheck v text-is.NotUtf8 x)
-            → pick b 0 (afterCheck v (λ i. 0) (length (tokenLines text))) ≡ length (tokenLines text)
-        go true v x q = cc
-        go false (IllFormed i) x q = cc
-        go false WellFormed x q = refl
+        go : (j : Judged) (x : ReadText) → text-is.Counts n s k ≡ afterJudge j text-is.Refused x
+            → afterJudge j (λ i. 0) (length (tokenLines text)) ≡ length (tokenLines text)
+        go (Unfit i) x q = cc
+        go Fit x q = refl
 
     pub tokens-listed : {O : List ℕ} {size : ℕ} {O′ : List ℕ} → size ≡ linesSize text → linesSize text ≤ length O → O′ ≡ sets O 0 (rowLines n T′)
         → Lists text T S R O (Bytes size) T′ S′ R′ O′
@@ -82,9 +75,9 @@ module _ {text : List ℕ} {T : List ℤ} {S : List ℕ} {R : List ℤ} {r : Rea
         let z : listingOf text r ≡ tokenLines text = rw e in
         lists h (whole-fills (tokenLines text) O (q ∙ size-is) (rw size-is at h) (o ∙ ap (sets O 0) rows-are)) (sym z)
 
-  pub refusal-listed : (number : ℕ) → number ≡ readTextNumber r → eqb (readTextNumber r) 0 ≡ false → {O : List ℕ} → linesSize text ≤ length O
+  pub refusal-listed : {x : Refusal} → r ≡ text-is.Refused x → (number : ℕ) → number ≡ refusalNumber x → {O : List ℕ} → linesSize text ≤ length O
       → {l : Listed} {O′ : List ℕ} → Fills (refusedLine number) O l O′ → Lists text T S R O l T′ S′ R′ O′
-  refusal-listed number q z h f = lists h f (rw (q, z))
+  refusal-listed {x} e number q h f = lists h f (rw (e, q, number-some x))
 
 -- a short out buffer leaves everything as it was
 pub short-listed : (text : List ℕ) (T : List ℤ) (S : List ℕ) (R : List ℤ) (O : List ℕ) → length O < linesSize text → Lists text T S R O OutShort T S R O
@@ -113,9 +106,9 @@ module _ {text : List ℕ} {T : List ℤ} {S : List ℕ} {R : List ℤ} {O : Lis
       kept z =
           record {
             answer = e;
-            tokens = rw z at (u .records);
-            strings = rw z at (u .strings);
-            reports = rw z at (u .reports);
+            tokens = rw z at (u .lays .records);
+            strings = rw z at (u .lays .strings);
+            reports = rw z at (u .lays .reports);
             out = short-out f e;
           }
 

@@ -7,12 +7,12 @@ use native.Mathlib.Omega.{arith}
 use lib.ListN.{length}
 use Rattle.base.specs.Bytes.{AreBytes}
 use Rattle.limits.specs.Limits.{maxMessageSize, maxBytesLiteralLength}
-use Rattle.token.specs.Kind.{kindNumber}
 use Rattle.token.specs.Layout.{RecordFits}
 use Rattle.token.specs.Place.{firstPlace, Walkable}
 use Rattle.token.specs.declared.place.Place.{Place}
+use Rattle.token.proofs.KindNumbers.{IsEof}
 use Rattle.token.proofs.Places.{first-walkable, to-place}
-use Rattle.lexeme.specs.declared.Mode.the-variants.{Strict}
+use Rattle.lexer.specs.declared.reading.Reading.the-variants.{Strict}
 use Rattle.lexer.specs.Token.{nextToken, stringSize}
 use Rattle.lexer.specs.declared.next.Token.{Token}
 use Rattle.reading.specs.Tokens.{tokensFrom, tokens}
@@ -60,14 +60,14 @@ module _ {text : List ℕ} {p : Place} {n : ℕ} (w : Measuring text p n) {t : T
   pub line-few : length (lineText (lineNumbers (recordOf 0 t))) ≤ 154
   line-few = omega (arith, line-most (lineNumbers (recordOf 0 t)))
 
-  pub measuring-end : {k : ℕ} → k ≡ length (lineText (lineNumbers (recordOf 0 t))) → kindNumber (t .kind) ≡ 0 → n + k ≡ length (tokenLines text)
+  pub measuring-end : {k : ℕ} → k ≡ length (lineText (lineNumbers (recordOf 0 t))) → IsEof (t .kind) → n + k ≡ length (tokenLines text)
   measuring-end l c =
       let q = eof-of Strict maxBytesLiteralLength text (p .offset) (w .walkable .inside) t e c in
       let line = lineText (lineNumbers (recordOf 0 t)) in
       let d : linesFrom text (p .offset) ≡ line ++ [] = rw q (lines-more t [] ∙ ap (λ (x : List ℕ). line ++ x) lines-none) in
       counting-end (counting-turn (w .counted) line d (omega arith)) refl
 
-  module _ (c : kindNumber (t .kind) ≡ 0 → ⊥) where
+  module _ (c : IsEof (t .kind) → ⊥) where
     pub measuring-less : length text - t .end .offset < length text - p .offset
     measuring-less =
         let r = read-of Strict maxBytesLiteralLength text (p .offset) (w .walkable .inside) t e in

@@ -18,21 +18,24 @@ use Rattle.token.proofs.Places.{place-moved}
 use Rattle.utf8.specs.Check.{checkOf}
 use Rattle.utf8.specs.declared.check.Verdict.{Verdict}
 use Rattle.utf8.specs.declared.check.Verdict.the-variants.{WellFormed, IllFormed}
-use Rattle.lexeme.specs.declared.Mode.the-variants.{Strict}
+use Rattle.lexer.specs.declared.reading.Reading.the-variants.{Strict}
 use Rattle.lexer.specs.Token.{nextToken, stringSize}
 use Rattle.lexer.specs.declared.next.Token.{Token}
 use Rattle.notation.specs.Decimal.{numberText}
 use Rattle.notation.proofs.Digits.{digits-few, number-most}
 use Rattle.reading.specs.Tokens.{tokens}
-use Rattle.reading.specs.Buffers.{recordOf, recordsOf}
-use Rattle.reading.specs.Answers.{afterCheck, readTextAnswer}
+use Rattle.reading.specs.Buffers.{recordOf, recordsOf, wholeLaid}
+use Rattle.reading.specs.Refusals.{refusalNumber, afterCheck, judgeOf, afterJudge}
+use Rattle.reading.specs.Answers.{readTextAnswer}
 use Rattle.reading.specs.Passes.{Room, sufficeFor}
+use Rattle.reading.specs.declared.judge.Judged.the-variants.{Fit, Unfit}
+use Rattle.reading.specs.declared.refusal.Refusal.the-variants.{NotUtf8}
 use Rattle.reading.specs.declared.text.ReadText.the-variants as text-is
 use Rattle.reading.proofs.Nexts.{Read, reads}
 use Rattle.reading.proofs.From.{by-tokens}
 use Rattle.reading.proofs.Fits.{tokens-fit, suffice-room}
 use Rattle.listing_lines.specs.Lines.{lineText, lineNumbers, linesOf, refusedLine}
-use Rattle.listing_lines.specs.Listing.{readingOf, tokenLines, listingOf, linesSize, Fills, Lists, printed, Suffice, Prints}
+use Rattle.listing_lines.specs.Listing.{answerOf, tokenLines, listingOf, linesSize, Fills, Lists, printed, Suffice, Prints}
 use Rattle.listing_lines.specs.declared.Listed.{Listed}
 use Rattle.listing_lines.specs.declared.Listed.the-variants.{Bytes, OutShort}
 use Rattle.listing_lines.proofs.Lines.{refused-length}
@@ -83,10 +86,10 @@ module _ (text : List ℕ) (h : length text ≤ 8192) where
       omega (arith, w, tokens-fit Strict maxBytesLiteralLength text)
 
 module _ (text : List ℕ) (nt ns nr no : ℕ) (h : Suffice (length text) nt ns no) where
-  room : Room Strict maxBytesLiteralLength text nt ns nr
+  room : Room (wholeLaid Strict maxBytesLiteralLength text) nt ns nr
   unfolding sufficeFor
   room =
-      suffice-room Strict maxBytesLiteralLength text nt ns nr (omega (arith, h .text))
+      suffice-room Strict maxBytesLiteralLength text nt ns nr
       (rw (
         le-leb ((length text + 1) * recordWidth) nt (omega (arith, h .text, h .tokens)),
         le-leb (length text) ns (omega (arith, h .text, h .strings)),
@@ -94,8 +97,8 @@ module _ (text : List ℕ) (nt ns nr no : ℕ) (h : Suffice (length text) nt ns 
       ))
 
   -- the reading is refused for bad UTF-8 alone
-  pub printed-is : listingOf text (readingOf text nt ns nr) ≡ printed text
-  unfolding readTextAnswer printed
+  pub printed-is : listingOf text (answerOf text nt ns nr) ≡ printed text
+  unfolding readTextAnswer judgeOf printed
   printed-is =
       rw (
         le-ltb maxMessageSize (length text) (omega (arith, h .text)),
@@ -105,17 +108,18 @@ module _ (text : List ℕ) (nt ns nr no : ℕ) (h : Suffice (length text) nt ns 
       )
       (go (checkOf text) _ _ _)
     where
-      go : (v : Verdict) (i j k : ℕ) → listingOf text (afterCheck v text-is.NotUtf8 (text-is.Counts i j k))
-          ≡ afterCheck v (λ n. refusedLine 2) (tokenLines text)
+      go : (v : Verdict) (i j k : ℕ)
+          → listingOf text (afterJudge (afterCheck v (λ n. Unfit (NotUtf8 n)) Fit) text-is.Refused (text-is.Counts i j k))
+          ≡ afterCheck v (λ n. refusedLine (refusalNumber (NotUtf8 n))) (tokenLines text)
       go WellFormed i j k = refl
       go (IllFormed n) i j k = refl
 
   -- the out buffer is not shorter than the lines
   pub lines-fit-out : linesSize text ≤ no
-  unfolding linesSize
+  unfolding linesSize judgeOf
   lines-fit-out = rw (le-ltb maxMessageSize (length text) (omega (arith, h .text))) (go (checkOf text))
     where
-      go : (v : Verdict) → afterCheck v (λ n. 0) (length (tokenLines text)) ≤ no
+      go : (v : Verdict) → afterJudge (afterCheck v (λ n. Unfit (NotUtf8 n)) Fit) (λ r. 0) (length (tokenLines text)) ≤ no
       go WellFormed = omega (arith, lines-most text (h .text), h .out)
       go (IllFormed n) = omega arith
 
@@ -124,7 +128,7 @@ module _ (text : List ℕ) (nt ns nr no : ℕ) (h : Suffice (length text) nt ns 
   unfolding printed
   printed-fits = go (checkOf text)
     where
-      go : (v : Verdict) → length (afterCheck v (λ n. refusedLine 2) (tokenLines text)) ≤ no
+      go : (v : Verdict) → length (afterCheck v (λ n. refusedLine (refusalNumber (NotUtf8 n))) (tokenLines text)) ≤ no
       go WellFormed = omega (arith, lines-most text (h .text), h .out)
       go (IllFormed n) = omega (arith, refused-length 2, number-most (pos 2), h .out)
 

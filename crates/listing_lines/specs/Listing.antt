@@ -7,26 +7,27 @@ use lib.IntN.{ℤ}
 use lib.ListN.{length}
 use Rattle.base.specs.Buffers.{overlay}
 use Rattle.base.specs.Choice.{pick}
-use Rattle.limits.specs.Limits.{maxMessageSize, maxBytesLiteralLength}
+use Rattle.limits.specs.Limits.{maxBytesLiteralLength}
 use Rattle.token.specs.Layout.{recordWidth}
-use Rattle.lexeme.specs.declared.Mode.the-variants.{Strict}
+use Rattle.lexer.specs.declared.reading.Reading.the-variants.{Strict}
 use Rattle.utf8.specs.Check.{checkOf}
-use Rattle.reading.specs.Tokens.{tokens}
-use Rattle.reading.specs.Buffers.{recordsOf}
-use Rattle.reading.specs.Answers.{afterCheck, readTextAnswer, readTextNumber}
+use Rattle.reading.specs.Buffers.{wholeLaid}
+use Rattle.reading.specs.Refusals.{refusalNumber, afterCheck, judgeOf, afterJudge}
+use Rattle.reading.specs.Answers.{readTextAnswer, readTextNumber}
 use Rattle.reading.specs.Calls.{ReadsText}
 use Rattle.reading.specs.declared.text.ReadText.{ReadText}
+use Rattle.reading.specs.declared.refusal.Refusal.the-variants.{NotUtf8}
 use Rattle.listing_lines.specs.Lines.{linesOf, refusedLine}
 use Rattle.listing_lines.specs.declared.Listed.{Listed}
 use Rattle.listing_lines.specs.declared.Listed.the-variants.{Bytes, OutShort}
 
 -- "strict, default limit": the whole reading with buffers of nt numbers, ns bytes and nr numbers
-abbrev pub readingOf : List ℕ → ℕ → ℕ → ℕ → ReadText
-readingOf text nt ns nr = readTextAnswer Strict maxBytesLiteralLength text nt ns nr
+abbrev pub answerOf : List ℕ → ℕ → ℕ → ℕ → ReadText
+answerOf text nt ns nr = readTextAnswer Strict maxBytesLiteralLength text nt ns nr
 
 -- the lines of the text's tokens
 abbrev pub tokenLines : List ℕ → List ℕ
-tokenLines text = linesOf (recordsOf 0 (tokens Strict maxBytesLiteralLength text))
+tokenLines text = linesOf (wholeLaid Strict maxBytesLiteralLength text .records)
 
 -- what is listed where a reading answers r: "one token a line", "or `refused` and the number"
 abbrev pub listingOf : List ℕ → ReadText → List ℕ
@@ -39,7 +40,7 @@ pub record Fills (lines O : List ℕ) (r : Listed) (O′ : List ℕ) : Type 0 wh
 
 -- how many bytes the lines of a text's tokens have; 0 where the text is refused by its length or as no UTF-8
 unfoldable pub linesSize : List ℕ → ℕ
-linesSize text = pick (ltb maxMessageSize (length text)) 0 (afterCheck (checkOf text) (λ n. 0) (length (tokenLines text)))
+linesSize text = afterJudge (judgeOf text) (λ r. 0) (length (tokenLines text))
 
 -- the out buffer is short, and nothing is written to any buffer
 pub record Untouched (T : List ℤ) (S : List ℕ) (R : List ℤ) (O : List ℕ) (r : Listed) (T′ : List ℤ) (S′ : List ℕ) (R′ : List ℤ) (O′ : List ℕ) : Type 0 where
@@ -52,8 +53,8 @@ pub record Untouched (T : List ℤ) (S : List ℕ) (R : List ℤ) (O : List ℕ)
 -- the text is read, and what is listed of it fills the out buffer
 pub record Filled (text : List ℕ) (T : List ℤ) (S : List ℕ) (R : List ℤ) (O : List ℕ) (r : Listed)
     (T′ : List ℤ) (S′ : List ℕ) (R′ : List ℤ) (O′ : List ℕ) : Type 0 where
-  pub reads : ReadsText Strict maxBytesLiteralLength text T S R (readingOf text (length T) (length S) (length R)) T′ S′ R′
-  pub fills : Fills (listingOf text (readingOf text (length T) (length S) (length R))) O r O′
+  pub reads : ReadsText Strict maxBytesLiteralLength text T S R (answerOf text (length T) (length S) (length R)) T′ S′ R′
+  pub fills : Fills (listingOf text (answerOf text (length T) (length S) (length R))) O r O′
 
 -- the contract: an out buffer that is shorter than the lines is told before anything is written
 pub record Lists (text : List ℕ) (T : List ℤ) (S : List ℕ) (R : List ℤ) (O : List ℕ) (r : Listed)
@@ -63,7 +64,7 @@ pub record Lists (text : List ℕ) (T : List ℤ) (S : List ℕ) (R : List ℤ) 
 
 -- what is printed of a text of at most 8,192 bytes: the lines of its tokens, or `refused 2` where it isn't UTF-8
 unfoldable pub printed : List ℕ → List ℕ
-printed text = afterCheck (checkOf text) (λ n. refusedLine 2) (tokenLines text)
+printed text = afterCheck (checkOf text) (λ n. refusedLine (refusalNumber (NotUtf8 n))) (tokenLines text)
 
 -- lengths that suffice for any text of at most 8,192 bytes: a token for each byte and the Eof, each of a line of at most 48 bytes; the strict
 -- reading makes no report

@@ -10,9 +10,9 @@ ghost use Rattle.reading.specs.Buffers.{recordOf};
 ghost use Rattle.listing_lines.specs.Lines.{lineText, lineNumbers, refusedLine};
 ghost use Rattle.listing_lines.specs.Listing.{tokenLines, linesSize, Fills, Lists};
 ghost use Rattle.listing_lines.specs.Rows.{rowNumbers, rowLines};
-use lexeme::Mode;
 use lexer::next::Token;
 use lexer::next::next_token;
+use lexer::reading::Reading;
 use limits::default_bytes_limit;
 use notation::numbers::number_size;
 use notation::numbers::separator_before;
@@ -105,11 +105,11 @@ fn lines_size(text: &[u8]) -> usize
     let mut place = Place::first();
     let mut size = 0;
     loop {
-        let t = next_token(text, place, Mode::Strict, limit);
+        let t = next_token(text, place, Reading::Strict, limit);
         let kind = t.kind;
         let row = token_numbers(t);
         size += line_size(&row);
-        if kind.number() == 0 {
+        if kind.is_eof() {
             return size;
         }
         place = t.end;
@@ -122,8 +122,7 @@ fn listing_size(text: &[u8]) -> usize
 {
     match judge(text) {
         Judged::Fit => lines_size(text),
-        Judged::TooLong => 0,
-        Judged::NotUtf8(_) => 0,
+        Judged::Unfit(_) => 0,
     }
 }
 
@@ -171,8 +170,7 @@ pub fn list(
         return Listed::OutShort;
     }
     let limit = default_bytes_limit();
-    let answer = read_text(text, Mode::Strict, limit, tokens, strings, reports);
-    match answer {
+    match read_text(text, Reading::Strict, limit, tokens, strings, reports) {
         ReadText::Counts {
             tokens: count,
             strings: _,
@@ -181,6 +179,6 @@ pub fn list(
             put_lines(tokens, count, out);
             Listed::Bytes(size)
         }
-        _ => put_refusal(answer.number(), out),
+        ReadText::Refused(r) => put_refusal(r.number(), out),
     }
 }

@@ -1,18 +1,18 @@
 // Texts, for C.
 ghost use mathlib.Core.Path.{_≡_};
-ghost use Rattle.pxf.specs.Texts.{modeOf, TextRead, TokenRead, PlaceGiven};
+ghost use Rattle.pxf.specs.Texts.{readingOf, TextRead, TokenRead, PlaceGiven};
 use crate::values;
-use lexeme::Mode;
+use lexer::reading::Reading;
 use token::place::Place;
 
-// The mode of a number: 1 is tolerant, any other strict.
-fn mode_of(mode: u8) -> Mode
-    ensures { λ r. ⌜ r ≡ modeOf mode ⌝ }
+// The reading of a number: 1 is tolerant, any other strict.
+fn reading_of(mode: u8) -> Reading
+    ensures { λ r. ⌜ r ≡ readingOf mode ⌝ }
 {
     if mode == 1 {
-        return Mode::Tolerant;
+        return Reading::Tolerant;
     }
-    Mode::Strict
+    Reading::Strict
 }
 
 // Reads a whole text: `answer` gets the counts of tokens, string bytes and reports.
@@ -28,7 +28,7 @@ pub extern "C" fn pxf_read_text(
 ) -> u8
     ensures { λ r. ⌜ TextRead mode limit (now (text .entry)) (now (tokens .entry)) (now (strings .entry)) (now (reports .entry)) r (now (tokens .exit)) (now (strings .exit)) (now (reports .exit)) (now (answer .exit)) ⌝ }
 {
-    let m = mode_of(mode);
+    let m = reading_of(mode);
     let r = reading::text::read_text(text, m, limit as usize, tokens, strings, reports);
     *answer = values::of_text(r);
     r.number()
@@ -50,7 +50,7 @@ pub extern "C" fn pxf_read_token(
 ) -> u8
     ensures { λ r. ⌜ TokenRead offset line column mode limit (now (text .entry)) (now (tokens .entry)) (now (strings .entry)) (now (reports .entry)) r (now (tokens .exit)) (now (strings .exit)) (now (reports .exit)) (now (answer .exit)) ⌝ }
 {
-    let m = mode_of(mode);
+    let m = reading_of(mode);
     let place = Place {
         offset: offset as usize,
         line: line as usize,

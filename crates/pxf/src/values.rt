@@ -1,10 +1,27 @@
 // The six numbers of an answer: its values, and zeros.
 ghost use mathlib.Core.Path.{_≡_};
 ghost use Rattle.reading.specs.Answers.{readTextValues, readTokenValues, placeOfValues};
+ghost use Rattle.reading.specs.Refusals.{refusalValues};
 ghost use Rattle.pxf.specs.Texts.{sixOf, Fit63};
 use reading::one::ReadToken;
 use reading::place::PlaceOf;
+use reading::refusal::Refusal;
 use reading::text::ReadText;
+
+// The values of a refusal.
+fn of_refusal(r: Refusal) -> [i64; 6]
+    requires { ⌜ Fit63 (refusalValues r) ⌝ }
+    ensures { λ v. ⌜ v ≡ sixOf (refusalValues r) ⌝ }
+{
+    match r {
+        Refusal::NotUtf8(at) => [at as i64, 0, 0, 0, 0, 0],
+        Refusal::TooLong => [0, 0, 0, 0, 0, 0],
+        Refusal::NoPlace => [0, 0, 0, 0, 0, 0],
+        Refusal::TokensShort => [0, 0, 0, 0, 0, 0],
+        Refusal::StringsShort => [0, 0, 0, 0, 0, 0],
+        Refusal::ReportsShort => [0, 0, 0, 0, 0, 0],
+    }
+}
 
 // The values of a whole reading.
 pub fn of_text(r: ReadText) -> [i64; 6]
@@ -17,11 +34,7 @@ pub fn of_text(r: ReadText) -> [i64; 6]
             strings,
             reports,
         } => [tokens as i64, strings as i64, reports as i64, 0, 0, 0],
-        ReadText::NotUtf8(at) => [at as i64, 0, 0, 0, 0, 0],
-        ReadText::TooLong => [0, 0, 0, 0, 0, 0],
-        ReadText::TokensShort => [0, 0, 0, 0, 0, 0],
-        ReadText::StringsShort => [0, 0, 0, 0, 0, 0],
-        ReadText::ReportsShort => [0, 0, 0, 0, 0, 0],
+        ReadText::Refused(x) => of_refusal(x),
     }
 }
 
@@ -43,12 +56,7 @@ pub fn of_token(r: ReadToken) -> [i64; 6]
             end.line as i64,
             end.column as i64,
         ],
-        ReadToken::NotUtf8(at) => [at as i64, 0, 0, 0, 0, 0],
-        ReadToken::TooLong => [0, 0, 0, 0, 0, 0],
-        ReadToken::NoPlace => [0, 0, 0, 0, 0, 0],
-        ReadToken::TokensShort => [0, 0, 0, 0, 0, 0],
-        ReadToken::StringsShort => [0, 0, 0, 0, 0, 0],
-        ReadToken::ReportsShort => [0, 0, 0, 0, 0, 0],
+        ReadToken::Refused(x) => of_refusal(x),
     }
 }
 
@@ -59,8 +67,6 @@ pub fn of_place(r: PlaceOf) -> [i64; 6]
 {
     match r {
         PlaceOf::At(p) => [p.offset as i64, p.line as i64, p.column as i64, 0, 0, 0],
-        PlaceOf::NotUtf8(at) => [at as i64, 0, 0, 0, 0, 0],
-        PlaceOf::TooLong => [0, 0, 0, 0, 0, 0],
-        PlaceOf::NoPlace => [0, 0, 0, 0, 0, 0],
+        PlaceOf::Refused(x) => of_refusal(x),
     }
 }

@@ -1,9 +1,9 @@
--- The chain of calls of `read_token`: a call gives the token after its place, so that calls from the first place on give the tokens of the
--- text, by induction on the calls; and from a place between two characters, no call is refused, by induction on the tokens, each of
+-- The chain of calls of `read_token`: a call lays what the token after its place lays, so that calls from the first place on lay what the tokens of
+-- the text lay, by induction on the calls; and from a place between two characters, no call is refused, by induction on the tokens, each of
 -- which ends between two characters (`next-utf8`). Assumes nothing.
 use mathlib.Core.Path.{_≡_, refl, sym, ap, _∙_, subst}
 use mathlib.Core.Bool.{Bool, true, false}
-use mathlib.Core.List.{List, [], _∷_, _++_, append-nil}
+use mathlib.Core.List.{List, [], _∷_, _++_, map}
 use Prim.Native.Nat.{ℕ, _+_, _*_, _≤_}
 use native.Mathlib.Nat.{pos-of-ne-zero}
 use native.Mathlib.Omega.{arith}
@@ -17,159 +17,135 @@ use Rattle.base.proofs.Stores.{overlaid}
 use Rattle.limits.specs.Limits.{maxMessageSize}
 use Rattle.utf8.specs.Grammar.{Boundary, validTo}
 use Rattle.utf8.specs.Check.{checkOf}
-use Rattle.utf8.specs.declared.check.Verdict.{Verdict}
-use Rattle.utf8.specs.declared.check.Verdict.the-variants.{WellFormed, IllFormed}
+use Rattle.utf8.specs.declared.check.Verdict.the-variants.{WellFormed}
 use Rattle.utf8.proofs.Boundaries.{boundary-start, boundary-between, not-inside}
 use Rattle.utf8.proofs.Valid.{checked, whole-end}
-use Rattle.token.specs.Kind.{kindNumber}
+use Rattle.token.specs.Kind.{kindNumber, isString}
 use Rattle.token.specs.Layout.{recordWidth, reportWidth, recordNumbers}
 use Rattle.token.specs.Place.{firstPlace, placeAt}
 use Rattle.token.specs.declared.layout.Record.{Record}
+use Rattle.token.specs.declared.layout.Report.{Report}
 use Rattle.token.specs.declared.place.Place.{Place}
-use Rattle.lexeme.specs.Reports.{notesNumbers}
-use Rattle.lexeme.specs.declared.Mode.{Mode}
+use Rattle.token.proofs.KindNumbers.{IsEof}
+use Rattle.lexeme.specs.Reports.{reportOf, notesNumbers}
 use Rattle.lexeme.proofs.Notes.{notes-length}
-use Rattle.lexer.specs.Lexer.{stringOf, notesOf}
-use Rattle.lexer.specs.Token.{foundAt, nextToken, isString, stringSize}
+use Rattle.lexer.specs.Reading.{stringIn, notesIn}
+use Rattle.lexer.specs.Token.{foundAt, nextToken, stringSize}
 use Rattle.lexer.specs.declared.next.Token.{Token}
-use Rattle.reading.specs.Tokens.{tokensFrom, tokens}
-use Rattle.reading.specs.Buffers.{recordOf, recordsOf, stringsOf, reportsOf, reportRows}
-use Rattle.reading.specs.Answers.{afterCheck, isPlace, readTokenAnswer}
-use Rattle.reading.specs.Chain.{Call, movedBy, Calls, last, more, ChainGivesWhole, ChainRuns}
-use Rattle.reading.specs.declared.one.ReadToken.{ReadToken}
-use Rattle.reading.specs.declared.one.ReadToken.the-variants.{One, TooLong, NotUtf8, NoPlace, TokensShort, StringsShort, ReportsShort}
+use Rattle.lexer.specs.declared.reading.Reading.{Reading}
 use Rattle.lexer.proofs.Founds.{next-utf8}
+use Rattle.reading.specs.Tokens.{tokensFrom, tokens}
+use Rattle.reading.specs.Buffers.{recordOf, recordsOf, stringsOf, reportsOf, recordRows, reportRows, Laid, laidFrom, wholeLaid, oneLaid}
+use Rattle.reading.specs.Refusals.{judgeOf, afterJudge}
+use Rattle.reading.specs.Answers.{isPlace, readTokenAnswer}
+use Rattle.reading.specs.Chain.{ofOne, Call, withValue, movedBy, Calls, last, more, ChainGivesWhole, ChainRuns}
+use Rattle.reading.specs.declared.judge.Judged.{Judged}
+use Rattle.reading.specs.declared.judge.Judged.the-variants.{Fit, Unfit}
+use Rattle.reading.specs.declared.refusal.Refusal.the-variants.{NoPlace, TokensShort, StringsShort, ReportsShort}
+use Rattle.reading.specs.declared.one.ReadToken.{ReadToken}
+use Rattle.reading.specs.declared.one.ReadToken.the-variants.{One, Refused}
 use Rattle.reading.proofs.Nexts.{Read, reads, end-offset}
 use Rattle.reading.proofs.From.{from-eof, from-more, by-tokens}
-use Rattle.reading.proofs.Rows.{same-record}
+use Rattle.reading.proofs.Rows.{same-record, same-reports, report-rows-length, notes-rows, one-strings, one-reports}
 use Rattle.reading.proofs.Fits.{string-size-le}
+use Rattle.reading.proofs.Refusals.{fits}
 use Rattle.reading.proofs.Places.{place-is, is-place}
-use Rattle.reading.proofs.Turns.{report-rows-more}
 use Rattle.reading.proofs.Ones.{done}
 
--- an answer that is no refusal is what stands at the end of the tests
-accepted : {s k : ℕ} {q : Place} {a : ReadToken} (b : Bool) (v : Verdict) (c d e f : Bool)
-    → One s k q ≡ pick b TooLong (afterCheck v NotUtf8 (pick c (pick d TokensShort (pick e StringsShort (pick f ReportsShort a))) NoPlace))
-    → One s k q ≡ a
-accepted true v c d e f h = cc
-accepted false (IllFormed n) c d e f h = cc
-accepted false WellFormed false d e f h = cc
-accepted false WellFormed true true e f h = cc
-accepted false WellFormed true false true f h = cc
-accepted false WellFormed true false false true h = cc
-accepted false WellFormed true false false false h = h
+-- two layings are equal where their parts are
+same-laid : {a b : Laid} → a .records ≡ b .records → a .strings ≡ b .strings → a .reports ≡ b .reports → a ≡ b
+same-laid {a} {b} p q r =
+    ap (λ (x : List Record). record { records = x; strings = a .strings; reports = a .reports }) p
+    ∙ ap (λ (x : List ℕ). record { records = b .records; strings = x; reports = a .reports }) q
+    ∙ ap (λ (x : List Report). record { records = b .records; strings = b .strings; reports = x }) r
 
-module _ (m : Mode) (limit : ℕ) (text : List ℕ) where
-  -- what the token after a place lays into the buffers
+-- an answer that is no refusal is what stands at the end of the tests
+accepted : {s k : ℕ} {q : Place} {a : ReadToken} (j : Judged) (c d e f : Bool)
+    → One s k q ≡ afterJudge j Refused (pick c (pick d (Refused TokensShort) (pick e (Refused StringsShort) (pick f (Refused ReportsShort) a))) (Refused NoPlace))
+    → One s k q ≡ a
+accepted (Unfit x) c d e f h = cc
+accepted Fit false d e f h = cc
+accepted Fit true true e f h = cc
+accepted Fit true false true f h = cc
+accepted Fit true false false true h = cc
+accepted Fit true false false false h = h
+
+module _ (m : Reading) (limit : ℕ) (text : List ℕ) where
+  -- the token after a place
   token : Place → Token
   token p = nextToken m limit text (p .offset)
 
+  -- its string and its reports
   stringAt : Token → List ℕ
-  stringAt t = stringOf m (drop (t .start .offset) text)
+  stringAt t = stringIn m (drop (t .start .offset) text)
 
-  reportsAt : Token → List ℤ
-  reportsAt t = notesNumbers text (t .start .offset) (notesOf m limit (drop (t .start .offset) text))
+  reportsAt : Token → List Report
+  reportsAt t = map (reportOf text (t .start .offset)) (notesIn m limit (drop (t .start .offset) text))
 
   -- what an accepted call gives
-  record Given (p : Place) (r : Record) (bytes : List ℕ) (numbers : List ℤ) (q : Place) : Type 0 where
+  record Given (p : Place) (r : Record) (bytes : List ℕ) (reports : List Report) (q : Place) : Type 0 where
     row : r ≡ recordOf 0 (token p)
     string : bytes ≡ stringAt (token p)
-    reports : numbers ≡ reportsAt (token p)
+    reported : reports ≡ reportsAt (token p)
     end : q ≡ token p .end
 
-  given : {p q : Place} {r : Record} {bytes : List ℕ} {numbers : List ℤ} → Call m limit text p r bytes numbers q → Given p r bytes numbers q
-  unfolding readTokenAnswer token stringAt reportsAt
-  given {p} {q} {r} {bytes} {numbers} c =
-      let t = nextToken m limit text (p .offset) in
-      let ns = notesOf m limit (drop (t .start .offset) text) in
-      let e : One (c .s) (c .k) q ≡ One (length (stringOf m (drop (t .start .offset) text))) (length ns) (t .end) =
-      accepted (ltb maxMessageSize (length text)) (checkOf text) (isPlace text p) (ltb (length (c .T)) recordWidth) (ltb (length (c .S)) (length (stringOf m (drop (t .start .offset) text)))) (ltb (length (c .R)) (length ns * reportWidth)) (c .reads .answer) in
-      let es : length (stringOf m (drop (t .start .offset) text)) ≡ c .s = cc in
-      let ek : c .k ≡ length ns = cc in
-      let n : length (notesNumbers text (t .start .offset) ns) ≡ c .k * reportWidth = rw ek (notes-length text (t .start .offset) ns) in
+  given : {p q : Place} {r : Record} {bytes : List ℕ} {reports : List Report} → Call m limit text p (ofOne r bytes reports) q → Given p r bytes reports q
+  unfolding readTokenAnswer recordsOf recordRows token stringAt reportsAt
+  given {p} {q} {r} {bytes} {reports} c =
+      let t : Token = nextToken m limit text (p .offset) in
+      let l : Laid = oneLaid m limit text (p .offset) in
+      let e : One (c .s) (c .k) q ≡ One (length (l .strings)) (length (l .reports)) (t .end) =
+      accepted (judgeOf text) (isPlace text p) (ltb (length (c .T)) recordWidth) (ltb (length (c .S)) (length (l .strings))) (ltb (length (c .R)) (length (l .reports) * reportWidth)) (c .reads .answer) in
+      let es : length (l .strings) ≡ c .s = cc in
+      let ek : c .k ≡ length (l .reports) = cc in
+      let n : length (reportRows (l .reports)) ≡ c .k * reportWidth = rw ek (report-rows-length (l .reports)) in
+      let w = c .reads .lays in
       record {
-        row = same-record r (recordOf 0 t) (sym (c .stored) ∙ rw (c .reads .record-is));
-        string = sym (c .written) ∙ rw (c .reads .string) (take-at (stringOf m (drop (t .start .offset) text)) _ (c .s) es);
-        reports = sym (c .reported) ∙ rw (c .reads .reports) (take-at (notesNumbers text (t .start .offset) ns) _ (c .k * reportWidth) n);
+        row = same-record r (recordOf 0 t) (sym (c .stored) ∙ rw (w .records));
+        string = sym (c .written) ∙ rw (w .strings) (take-at (l .strings) _ (c .s) es) ∙ one-strings m limit text t;
+        reported =
+            same-reports reports (l .reports) (sym (c .reported) ∙ rw (w .reports) (take-at (reportRows (l .reports)) _ (c .k * reportWidth) n))
+            ∙ one-reports m limit text t;
         end = cc;
       }
 
   -- a record moved is the record of the token with its string there
   moved-is : (n : ℕ) (t : Token) → movedBy n (recordOf 0 t) ≡ recordOf n t
-  moved-is n t = ap put (go (isString (t .kind)))
+  moved-is n t = ap (λ (v : ℕ). withValue v (recordOf 0 t)) (go (isString (t .kind)))
     where
-      put : ℕ → Record
-      put v =
-          record {
-            kind = kindNumber (t .kind);
-            reason = t .reason;
-            detail = t .detail;
-            start = t .start .offset;
-            end = t .end .offset;
-            line = t .start .line;
-            column = t .start .column;
-            value = v;
-            size = t .size;
-            precision = t .precision;
-            digits = t .digits;
-            nanos = t .nanos;
-          }
-
       go : (b : Bool) → pick b (n + pick b 0 (t .value)) (pick b 0 (t .value)) ≡ pick b n (t .value)
       go true = omega arith
       go false = refl
 
-  no-reports : reportRows (reportsOf m limit text []) ≡ []
-  unfolding reportRows reportsOf
-  no-reports = refl
+  -- ---- what calls lay is what the tokens lay
 
-  -- ---- what calls give is what the tokens are
-
-  record Gives (n at : ℕ) (rs : List Record) (ss : List ℕ) (ns : List ℤ) : Type 0 where
-    records : rs ≡ recordsOf n (tokensFrom m limit text at)
-    strings : ss ≡ stringsOf m text (tokensFrom m limit text at)
-    reports : ns ≡ reportRows (reportsOf m limit text (tokensFrom m limit text at))
-
-  gives : {n : ℕ} {p : Place} {rs : List Record} {ss : List ℕ} {ns : List ℤ} → Calls m limit text n p rs ss ns → p .offset ≤ length text
-      → Gives n (p .offset) rs ss ns
-  unfolding recordsOf stringsOf token stringAt reportsAt
-  gives (last {n} {p} {q} {r} {bytes} {numbers} c z) h =
+  gives : {n : ℕ} {p : Place} {l : Laid} → Calls m limit text n p l → p .offset ≤ length text
+      → l ≡ laidFrom m limit text n (tokensFrom m limit text (p .offset))
+  unfolding recordsOf stringsOf reportsOf token stringAt reportsAt
+  gives (last {n} {p} {q} {r} {bytes} {reports} c z) h =
       let t = token p in
       let g = given c in
-      let e : kindNumber (t .kind) ≡ 0 = sym (ap (λ (x : Record). x .kind) (g .row)) ∙ z in
-      let f = from-eof m limit text (p .offset) h e in
-      record {
-        records = rw (f, g .row) (ap (λ (x : Record). x ∷ []) (moved-is n t));
-        strings = rw (f, g .string) (sym (append-nil (stringAt t)));
-        reports = rw (f, g .reports, report-rows-more m limit text t [], no-reports) (sym (append-nil (reportsAt t)));
-      }
-  gives (more {n} {p} {q} {r} {bytes} {numbers} {rs} {ss} {ns} c z w) h =
+      let e : IsEof (t .kind) = sym (ap (λ (x : Record). x .kind) (g .row)) ∙ z in
+      rw (from-eof m limit text (p .offset) h e)
+      (same-laid (ap (λ (x : Record). movedBy n x ∷ []) (g .row) ∙ ap (λ (x : Record). x ∷ []) (moved-is n t)) (g .string ∙ sym (one-strings m limit text t)) (g .reported ∙ sym (one-reports m limit text t)))
+  gives (more {n} {p} {q} {r} {bytes} {reports} {l} c z w) h =
       let t = token p in
       let g = given c in
       let k : kindNumber (t .kind) ≡ r .kind = sym (ap (λ (x : Record). x .kind) (g .row)) in
-      let f = from-more m limit text (p .offset) h (λ e. absurd (omega arith)) in
       let r′ : Read m limit text (p .offset) t = reads m limit text (p .offset) h in
       let o : q .offset ≡ t .end .offset = ap (λ (x : Place). x .offset) (g .end) in
-      let v = gives w (omega (arith, r′ .inside)) in
-      let l : length bytes ≡ stringSize (t .kind) (t .size) = ap length (g .string) ∙ r′ .string in
-      record {
-        records =
-            rw f
-            (ap (λ (x : Record). movedBy n x ∷ rs) (g .row)
-            ∙ ap (λ (x : Record). x ∷ rs) (moved-is n t)
-            ∙ ap (λ (l : List Record). recordOf n t ∷ l) (rw (l, o) at (v .records)));
-        strings = rw f (ap (λ (x : List ℕ). x ++ ss) (g .string) ∙ ap (λ (x : List ℕ). stringAt t ++ x) (rw o at (v .strings)));
-        reports =
-            rw (f, report-rows-more m limit text t (tokensFrom m limit text (t .end .offset)))
-            (ap (λ (x : List ℤ). x ++ ns) (g .reports) ∙ ap (λ (x : List ℤ). reportsAt t ++ x) (rw o at (v .reports)));
-      }
+      let b : length bytes ≡ stringSize (t .kind) (t .size) = ap length (g .string) ∙ r′ .string in
+      let v : l ≡ laidFrom m limit text (n + stringSize (t .kind) (t .size)) (tokensFrom m limit text (t .end .offset)) = rw (b, o) at (gives w (omega (arith, r′ .inside))) in
+      rw (from-more m limit text (p .offset) h (λ e. absurd (omega arith)))
+      (same-laid
+      (ap (λ (x : Record). movedBy n x ∷ l .records) (g .row) ∙ ap (λ (x : Record). x ∷ l .records) (moved-is n t) ∙ ap (λ (x : Laid). recordOf n t ∷ x .records) v)
+      (ap (λ (x : List ℕ). x ++ l .strings) (g .string) ∙ ap (λ (x : Laid). stringAt t ++ x .strings) v)
+      (ap (λ (x : List Report). x ++ l .reports) (g .reported) ∙ ap (λ (x : Laid). reportsAt t ++ x .reports) v))
 
-  -- calls from the first place on give what the whole reading gives
+  -- calls from the first place on lay what the whole reading lays
   pub chain-gives-whole : ChainGivesWhole m limit text
   unfolding tokens
-  chain-gives-whole rs ss ns c =
-      let g = gives c (omega arith) in
-      record { records = g .records; strings = g .strings; reports = g .reports }
+  chain-gives-whole l c = gives c (omega arith)
 
   -- ---- no call is refused
 
@@ -198,13 +174,13 @@ module _ (m : Mode) (limit : ℕ) (text : List ℕ) where
     module _ (T : List ℤ) (S : List ℕ) (R : List ℤ) (rt : recordWidth ≤ length T) (rs : length text ≤ length S) (rr : length text * reportWidth ≤ length R) where
       -- a call from the place of an offset between two characters
       call : (at : ℕ) → at ≤ length text → Boundary text at → (p : Place) → p .offset ≡ at → p ≡ placeAt text at → (t : Token) → t ≡ nextToken m limit text at
-          → Call m limit text p (recordOf 0 t) (stringAt t) (reportsAt t) (t .end)
-      unfolding stringAt reportsAt
+          → Call m limit text p (ofOne (recordOf 0 t) (stringAt t) (reportsAt t)) (t .end)
+      unfolding stringAt reportsAt recordRows
       call at l b p o e t d =
           let r : Read m limit text at t = subst (λ (u : Token). Read m limit text at u) (sym d) (reads m limit text at l) in
-          let ns = notesOf m limit (drop (t .start .offset) text) in
+          let ns = notesIn m limit (drop (t .start .offset) text) in
           let row = recordNumbers (recordOf 0 t) in
-          let str = stringOf m (drop (t .start .offset) text) in
+          let str = stringIn m (drop (t .start .offset) text) in
           let rep = notesNumbers text (t .start .offset) ns in
           let z = string-size-le (t .kind) (t .size) in
           let n : length rep ≡ t .reports * reportWidth = notes-length text (t .start .offset) ns ∙ ap (λ (k : ℕ). k * reportWidth) (r .notes) in
@@ -222,33 +198,42 @@ module _ (m : Mode) (limit : ℕ) (text : List ℕ) where
             R′ = overlay rep R;
             s = stringSize (t .kind) (t .size);
             k = t .reports;
-            reads = done m limit text p T S R h g f rt (d ∙ ap (nextToken m limit text) (sym o)) refl (omega (arith, r .string)) (omega arith) (sym (overlaid row T rt)) (sym (overlaid str S ls)) (sym (overlaid rep R lr));
+            reads =
+                done
+                (record {
+                  fit = fits text h g;
+                  place = f;
+                  tokens = rt;
+                  token = d ∙ ap (nextToken m limit text) (sym o);
+                  size = refl;
+                  strings = omega (arith, r .string);
+                  reports = omega arith;
+                })
+                (sym (overlaid row T rt)) (sym (overlaid str S ls)) (sym (overlaid rep R lr));
             stored = refl;
             written = take-at str (drop (length str) S) (stringSize (t .kind) (t .size)) (r .string);
-            reported = take-at rep (drop (length rep) R) (t .reports * reportWidth) n;
+            reported = take-at rep (drop (length rep) R) (t .reports * reportWidth) n ∙ sym (notes-rows text (t .start .offset) ns);
           }
 
       -- the calls from it on
       Runs : ℕ → List Token → Type 0
       Runs at ts =
-          Boundary text at → (n : ℕ) (p : Place) → p .offset ≡ at → p ≡ placeAt text at
-          → Calls m limit text n p (recordsOf n ts) (stringsOf m text ts) (reportRows (reportsOf m limit text ts))
+          Boundary text at → (n : ℕ) (p : Place) → p .offset ≡ at → p ≡ placeAt text at → Calls m limit text n p (laidFrom m limit text n ts)
 
       runs : (at : ℕ) → at ≤ length text → Runs at (tokensFrom m limit text at)
-      unfolding Runs recordsOf stringsOf stringAt reportsAt
+      unfolding Runs recordsOf stringsOf reportsOf stringAt reportsAt
       runs =
           by-tokens m limit text Runs
           (λ at l z b n p o e.
           let t = nextToken m limit text at in
-          rw (report-rows-more m limit text t [], no-reports, append-nil (stringOf m (drop (t .start .offset) text)), append-nil (reportsAt t), ← moved-is n t)
-          (last (call at l b p o e t refl) z))
+          rw (one-strings m limit text t, one-reports m limit text t, ← moved-is n t) (last (call at l b p o e t refl) z))
           (λ at ts l c w b n p o e.
           let t = nextToken m limit text at in
           let r = reads m limit text at l in
-          rw (report-rows-more m limit text t ts, ← moved-is n t, ← r .string)
-          (more (call at l b p o e t refl) (pos-of-ne-zero c) (w (end-between at l b) (n + length (stringOf m (drop (t .start .offset) text))) (t .end) refl (r .end-true))))
+          rw (← moved-is n t, ← r .string)
+          (more (call at l b p o e t refl) (pos-of-ne-zero c) (w (end-between at l b) (n + length (stringIn m (drop (t .start .offset) text))) (t .end) refl (r .end-true))))
 
-      from-start : Calls m limit text 0 firstPlace (recordsOf 0 (tokens m limit text)) (stringsOf m text (tokens m limit text)) (reportRows (reportsOf m limit text (tokens m limit text)))
+      from-start : Calls m limit text 0 firstPlace (wholeLaid m limit text)
       unfolding tokens placeAt Runs
       from-start = runs 0 (omega arith) (boundary-start text valid) 0 firstPlace refl refl
 

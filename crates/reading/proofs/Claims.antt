@@ -13,20 +13,20 @@ use borrow.Author.Tests.{eqb-true}
 use Rattle.base.specs.Bytes.{byte}
 use Rattle.base.specs.Classes.{isSpace}
 use Rattle.base.proofs.Tests.{or-case}
-use Rattle.token.specs.Kind.{kindNumber}
 use Rattle.token.specs.Place.{placeAt}
 use Rattle.token.specs.declared.layout.Record.{Record}
 use Rattle.token.specs.declared.place.Place.{Place}
 use Rattle.token.proofs.Places.{place-offset, place-line, place-column}
 use Rattle.lexeme.specs.Lexeme.{Note}
 use Rattle.lexeme.specs.Reports.{reportOf}
-use Rattle.lexeme.specs.declared.Mode.{Mode}
-use Rattle.lexer.specs.Lexer.{notesOf}
+use Rattle.lexer.specs.Reading.{notesIn}
+use Rattle.token.proofs.KindNumbers.{IsEof}
 use Rattle.lexer.specs.Token.{nextToken}
 use Rattle.lexer.specs.declared.next.Token.{Token}
-use Rattle.lexer.proofs.Lexed as lexed
+use Rattle.lexer.specs.declared.reading.Reading.{Reading}
+use Rattle.lexeme.proofs.Notes as notes
 use Rattle.reading.specs.Tokens.{tokensFrom, tokens}
-use Rattle.reading.specs.Buffers.{recordOf, recordsOf, stringsOf, reportsOf, recordRows, reportRows}
+use Rattle.reading.specs.Buffers.{recordOf, recordsOf, reportsOf, recordRows, reportRows, wholeLaid}
 use Rattle.reading.specs.Claim as claim
 use Rattle.reading.specs.Claim.{bytesOf, pieces, Tiles, Blank, Gaps, OneEof, TruePlace, Each, TokenPlace, ReportPlace, DurationSum, Demand3}
 use Rattle.reading.proofs.Nexts.{Read, reads}
@@ -69,7 +69,7 @@ record Holds (text : List ℕ) (at : ℕ) (rs : List Record) : Type 0 where
   places : Each (TokenPlace text) rs
   durations : Each (DurationSum text) rs
 
-module _ (m : Mode) (limit : ℕ) (text : List ℕ) where
+module _ (m : Reading) (limit : ℕ) (text : List ℕ) where
   -- the facts of one record, whatever follows it
   module _ (at : ℕ) (h : at ≤ length text) (p : ℕ) (t : Token) (r : Read m limit text at t) where
     front : bytesOf text at (t .start .offset) ++ (bytesOf text (t .start .offset) (t .end .offset) ++ drop (t .end .offset) text) ≡ drop at text
@@ -77,7 +77,7 @@ module _ (m : Mode) (limit : ℕ) (text : List ℕ) where
         ap (λ (l : List ℕ). bytesOf text at (t .start .offset) ++ l) (rejoin text (t .start .offset) (t .end .offset) (r .ordered))
         ∙ rejoin text at (t .start .offset) (r .after)
 
-    holds-eof : kindNumber (t .kind) ≡ 0 → Holds text at (recordOf p t ∷ [])
+    holds-eof : IsEof (t .kind) → Holds text at (recordOf p t ∷ [])
     holds-eof e =
         let o : length text ≤ t .end .offset = omega (arith, r .eof-end e) in
         let d : drop (t .end .offset) text ≡ [] = drop-of-length-le text o in
@@ -90,7 +90,7 @@ module _ (m : Mode) (limit : ℕ) (text : List ℕ) where
           durations = claim.more (r .duration) claim.none;
         }
 
-    holds-more : (rs : List Record) → (kindNumber (t .kind) ≡ 0 → ⊥) → Holds text (t .end .offset) rs → Holds text at (recordOf p t ∷ rs)
+    holds-more : (rs : List Record) → (IsEof (t .kind) → ⊥) → Holds text (t .end .offset) rs → Holds text at (recordOf p t ∷ rs)
     holds-more rs c w =
         record {
           tiles = claim.more (r .after) (r .ordered) (r .inside) (w .tiles);
@@ -105,13 +105,13 @@ module _ (m : Mode) (limit : ℕ) (text : List ℕ) where
         }
 
     -- its reports
-    report-places : Each (ReportPlace text) (map (reportOf text (t .start .offset)) (notesOf m limit (drop (t .start .offset) text)))
+    report-places : Each (ReportPlace text) (map (reportOf text (t .start .offset)) (notesIn m limit (drop (t .start .offset) text)))
     unfolding reportOf
-    report-places = go (notesOf m limit (drop (t .start .offset) text)) (r .notes-in)
+    report-places = go (notesIn m limit (drop (t .start .offset) text)) (r .notes-in)
       where
-        go : (ns : List Note) → lexed.NotesIn (length (drop (t .start .offset) text)) ns → Each (ReportPlace text) (map (reportOf text (t .start .offset)) ns)
-        go [] lexed.none = claim.none
-        go (n ∷ ns) (lexed.more i w) =
+        go : (ns : List Note) → notes.NotesIn (length (drop (t .start .offset) text)) ns → Each (ReportPlace text) (map (reportOf text (t .start .offset)) ns)
+        go [] notes.none = claim.none
+        go (n ∷ ns) (notes.more i w) =
             claim.more
             (true-place text (t .start .offset + n .offset) (placeAt text (t .start .offset + n .offset)) refl
             (omega (arith, r .ordered, r .inside, length-drop (t .start .offset) text)))
@@ -132,18 +132,16 @@ module _ (m : Mode) (limit : ℕ) (text : List ℕ) where
       (λ at ts h c w. each-append (report-places at h 0 (nextToken m limit text at) (reads m limit text at h)) w)
 
   -- demand 3, over the definitions
-  pub demand-3 : Demand3 m limit text (recordRows (recordsOf 0 (tokens m limit text))) (stringsOf m text (tokens m limit text)) (reportRows (reportsOf m limit text (tokens m limit text)))
+  pub demand-3 : Demand3 m limit text (recordRows (wholeLaid m limit text .records)) (wholeLaid m limit text .strings) (reportRows (wholeLaid m limit text .reports))
   unfolding tokens
   demand-3 =
       let w = holds-from 0 (omega arith) 0 in
       record {
-        records = recordsOf 0 (tokens m limit text);
-        reports = reportsOf m limit text (tokens m limit text);
+        laid = wholeLaid m limit text;
         held-records = refl;
+        held-strings = refl;
         held-reports = refl;
         as-the-rust = refl;
-        strings = refl;
-        as-reported = refl;
         values = string-values m limit text;
         tiles = w .tiles;
         gives-back = w .gives-back;

@@ -5,49 +5,45 @@ use mathlib.Core.Bool.{Bool, true, _&&_}
 use mathlib.Core.List.{List, [], _∷_, map}
 use Prim.Native.Nat.{ℕ, _+_, _*_, _-_, _≤_}
 use native.Mathlib.Omega.{arith}
-use lib.Dec.{leb, ltb, eqb}
+use lib.Dec.{leb}
 use lib.ListN.{length, drop, length-append, length-map}
 use borrow.Author.Tests.{leb-true}
-use Rattle.base.proofs.Tests.{pick-le, pick-case, and-left, and-right}
-use Rattle.limits.specs.Limits.{maxMessageSize}
-use Rattle.token.specs.Kind.{kindNumber}
+use Rattle.base.proofs.Tests.{pick-le, and-left, and-right}
+use Rattle.token.specs.Kind.{isString}
 use Rattle.token.specs.Layout.{recordWidth, reportWidth}
 use Rattle.token.specs.declared.kind.TokenKind.{TokenKind}
-use Rattle.lexeme.specs.Lexeme.{Note}
+use Rattle.token.proofs.KindNumbers.{IsEof}
 use Rattle.lexeme.specs.Reports.{reportOf}
 use Rattle.lexeme.specs.declared.Mode.{Mode}
 use Rattle.lexeme.specs.declared.Mode.the-variants.{Strict, Tolerant}
-use Rattle.scan.specs.Comment.{bodyEnd, blockNotes}
-use Rattle.scan.specs.Bytes.{bytesNotes}
-use Rattle.strings.specs.Literal.{literalNotes, stringNotes}
-use Rattle.triple_strings.specs.Triple.{closed, tripleNotes}
-use Rattle.lexer.specs.Lexer.{classAt, stringOf, notesBy, notesOf}
-use Rattle.lexer.specs.Token.{nextToken, isString, stringSize}
-use Rattle.lexer.specs.declared.class.Class.{Class}
-use Rattle.lexer.specs.declared.class.Class.the-variants as C
+use Rattle.lexer.specs.Reading.{modeOf, stringIn, notesIn}
+use Rattle.lexer.specs.Token.{nextToken, stringSize}
 use Rattle.lexer.specs.declared.next.Token.{Token}
+use Rattle.lexer.specs.declared.reading.Reading.{Reading}
+use Rattle.lexer.proofs.StrictNotes.{strict-notes}
 use Rattle.reading.specs.Tokens.{tokens}
-use Rattle.reading.specs.Buffers.{stringsOf, reportsOf}
-use Rattle.reading.specs.Passes.{Room, mostReports, sufficeFor}
+use Rattle.reading.specs.Buffers.{stringsOf, reportsOf, wholeLaid}
+use Rattle.reading.specs.Passes.{Room, mostNotes, mostReports, sufficeFor}
 use Rattle.reading.proofs.Nexts.{reads}
 use Rattle.reading.proofs.From.{by-tokens}
+use Rattle.reading.proofs.Rows.{records-length}
 
 pub string-size-le : (k : TokenKind) (n : ℕ) → stringSize k n ≤ n
 unfolding stringSize
 string-size-le k n = pick-le (isString k) (omega arith) (omega arith)
 
-module _ (m : Mode) (limit : ℕ) (text : List ℕ) where
+module _ (m : Reading) (limit : ℕ) (text : List ℕ) where
   -- the strings of a token and those after it
   pub strings-more : (t : Token) (ts : List Token)
-      → length (stringsOf m text (t ∷ ts)) ≡ length (stringOf m (drop (t .start .offset) text)) + length (stringsOf m text ts)
+      → length (stringsOf m text (t ∷ ts)) ≡ length (stringIn m (drop (t .start .offset) text)) + length (stringsOf m text ts)
   unfolding stringsOf
-  strings-more t ts = length-append (stringOf m (drop (t .start .offset) text)) (stringsOf m text ts)
+  strings-more t ts = length-append (stringIn m (drop (t .start .offset) text)) (stringsOf m text ts)
 
   pub reports-more : (t : Token) (ts : List Token)
-      → length (reportsOf m limit text (t ∷ ts)) ≡ length (notesOf m limit (drop (t .start .offset) text)) + length (reportsOf m limit text ts)
+      → length (reportsOf m limit text (t ∷ ts)) ≡ length (notesIn m limit (drop (t .start .offset) text)) + length (reportsOf m limit text ts)
   unfolding reportsOf
   reports-more t ts =
-      let ns = notesOf m limit (drop (t .start .offset) text) in
+      let ns = notesIn m limit (drop (t .start .offset) text) in
       let f = reportOf text (t .start .offset) in
       omega (arith, length-append (map f ns) (reportsOf m limit text ts), length-map ns f)
 
@@ -60,7 +56,7 @@ module _ (m : Mode) (limit : ℕ) (text : List ℕ) where
   unfolding stringsOf reportsOf
   none-left = record { count = omega arith; strings = omega arith; reports = omega arith }
 
-  few-eof : (at : ℕ) → at ≤ length text → kindNumber (nextToken m limit text at .kind) ≡ 0 → Few at (nextToken m limit text at ∷ [])
+  few-eof : (at : ℕ) → at ≤ length text → IsEof (nextToken m limit text at .kind) → Few at (nextToken m limit text at ∷ [])
   few-eof at h e =
       let t = nextToken m limit text at in
       let r = reads m limit text at h in
@@ -72,7 +68,7 @@ module _ (m : Mode) (limit : ℕ) (text : List ℕ) where
         reports = omega (arith, reports-more t [], r .notes, r .reports-in, r .after, r .inside);
       }
 
-  few-more : (at : ℕ) (ts : List Token) → at ≤ length text → (kindNumber (nextToken m limit text at .kind) ≡ 0 → ⊥)
+  few-more : (at : ℕ) (ts : List Token) → at ≤ length text → (IsEof (nextToken m limit text at .kind) → ⊥)
       → Few (nextToken m limit text at .end .offset) ts → Few at (nextToken m limit text at ∷ ts)
   few-more at ts h c w =
       let t = nextToken m limit text at in
@@ -99,46 +95,31 @@ module _ (m : Mode) (limit : ℕ) (text : List ℕ) where
   pub tokens-fit : length (tokens m limit text) ≤ length text + 1
   tokens-fit = omega (arith, few .count)
 
--- the strict reader makes no report
-strict-by : (k : Class) (limit : ℕ) (s : List ℕ) → notesBy k Strict limit s ≡ []
-unfolding notesBy blockNotes tripleNotes stringNotes literalNotes bytesNotes
-strict-by C.Newline limit s = refl
-strict-by C.LineComment limit s = refl
-strict-by C.BlockComment limit s = pick-case (λ (ns : List Note). ns ≡ []) (ltb (bodyEnd s) (length s)) (λ _. refl) (λ _. refl)
-strict-by C.Triple limit s = pick-case (λ (ns : List Note). ns ≡ []) (closed s) (λ _. refl) (λ _. refl)
-strict-by C.Quote limit s = refl
-strict-by C.Bytes limit s = refl
-strict-by (C.Single k) limit s = refl
-strict-by C.Directive limit s = refl
-strict-by C.Number limit s = refl
-strict-by C.Name limit s = refl
-strict-by C.Other limit s = refl
-
-strict-notes : (limit : ℕ) (s : List ℕ) → notesOf Strict limit s ≡ []
-unfolding notesOf
-strict-notes limit s = pick-case (λ (ns : List Note). ns ≡ []) (eqb (length s) 0) (λ _. refl) (λ _. strict-by (classAt s) limit s)
-
-strict-reports : (limit : ℕ) (text : List ℕ) (ts : List Token) → length (reportsOf Strict limit text ts) ≡ 0
+-- strict lexers make no report
+strict-reports : (m : Reading) → modeOf m ≡ Strict → (limit : ℕ) (text : List ℕ) (ts : List Token) → length (reportsOf m limit text ts) ≡ 0
 unfolding reportsOf
-strict-reports limit text [] = refl
-strict-reports limit text (t ∷ ts) =
-    omega (arith, reports-more Strict limit text t ts, ap length (strict-notes limit (drop (t .start .offset) text)), strict-reports limit text ts)
+strict-reports m e limit text [] = refl
+strict-reports m e limit text (t ∷ ts) =
+    omega (arith, reports-more m limit text t ts, ap length (strict-notes m e limit (drop (t .start .offset) text)), strict-reports m e limit text ts)
 
-most-reports : (m : Mode) (limit : ℕ) (text : List ℕ) → length (reportsOf m limit text (tokens m limit text)) ≤ mostReports m (length text)
-most-reports Strict limit text = omega (arith, strict-reports limit text (tokens Strict limit text))
-most-reports Tolerant limit text = reports-fit Tolerant limit text
+most-reports : (m : Reading) (limit : ℕ) (text : List ℕ) → length (reportsOf m limit text (tokens m limit text)) ≤ mostReports m (length text)
+most-reports m limit text = go (modeOf m) refl
+  where
+    go : (k : Mode) → modeOf m ≡ k → length (reportsOf m limit text (tokens m limit text)) ≤ mostNotes k (length text)
+    go Strict e = omega (arith, strict-reports m e limit text (tokens m limit text))
+    go Tolerant e = reports-fit m limit text
 
 -- buffers that suffice for any text of its length suffice for a text
-pub suffice-room : (m : Mode) (limit : ℕ) (text : List ℕ) (nt ns nr : ℕ) → length text ≤ maxMessageSize → sufficeFor m (length text) nt ns nr ≡ true → Room m limit text nt ns nr
+pub suffice-room : (m : Reading) (limit : ℕ) (text : List ℕ) (nt ns nr : ℕ) → sufficeFor m (length text) nt ns nr ≡ true
+    → Room (wholeLaid m limit text) nt ns nr
 unfolding sufficeFor
-suffice-room m limit text nt ns nr h e =
+suffice-room m limit text nt ns nr e =
     let a : Bool = leb ((length text + 1) * recordWidth) nt in
     let b : Bool = leb (length text) ns in
     let c : Bool = leb (mostReports m (length text) * reportWidth) nr in
     let f = and-left (a && b) c e in
     record {
-      short = h;
-      for-tokens = omega (arith, tokens-fit m limit text, leb-true ((length text + 1) * recordWidth) nt (and-left a b f));
+      for-tokens = omega (arith, records-length 0 (tokens m limit text), tokens-fit m limit text, leb-true ((length text + 1) * recordWidth) nt (and-left a b f));
       for-strings = omega (arith, strings-fit m limit text, leb-true (length text) ns (and-right a b f));
       for-reports = omega (arith, most-reports m limit text, leb-true (mostReports m (length text) * reportWidth) nr (and-right (a && b) c e));
     }

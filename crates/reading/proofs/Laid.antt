@@ -9,23 +9,24 @@ use lib.ListN.{length, drop, length-append}
 use lib.Seq.{take-at, drop-append-seam}
 use borrow.Author.Tests.{eq-eqb}
 use Rattle.base.specs.Choice.{pick}
-use Rattle.lexeme.specs.declared.Mode.{Mode}
-use Rattle.lexer.specs.Lexer.{stringOf}
-use Rattle.lexer.specs.Token.{nextToken, isString, stringSize}
+use Rattle.lexer.specs.Reading.{stringIn}
+use Rattle.token.specs.Kind.{isString}
+use Rattle.lexer.specs.Token.{nextToken, stringSize}
 use Rattle.lexer.specs.declared.next.Token.{Token}
+use Rattle.lexer.specs.declared.reading.Reading.{Reading}
 use Rattle.reading.specs.Tokens.{tokens}
 use Rattle.reading.specs.Buffers.{recordOf, recordsOf, stringsOf}
 use Rattle.reading.specs.Claim.{Each, none, more, ValueIn}
 use Rattle.reading.proofs.Nexts.{Read, reads}
 use Rattle.reading.proofs.From.{by-tokens}
 
-module _ (m : Mode) (limit : ℕ) (text : List ℕ) where
+module _ (m : Reading) (limit : ℕ) (text : List ℕ) where
   -- one String after the strings A and before the strings B
   laid : (at : ℕ) (t : Token) → Read m limit text at t → (A B : List ℕ)
-      → ValueIn m text (A ++ (stringOf m (drop (t .start .offset) text) ++ B)) (recordOf (length A) t)
+      → ValueIn m text (A ++ (stringIn m (drop (t .start .offset) text) ++ B)) (recordOf (length A) t)
   unfolding stringSize
   laid at t r A B k =
-      let str = stringOf m (drop (t .start .offset) text) in
+      let str = stringIn m (drop (t .start .offset) text) in
       let e : isString (t .kind) ≡ true = eq-eqb _ _ k in
       let l : length str ≡ t .size = r .string ∙ ap (λ (b : Bool). pick b (t .size) 0) e in
       let i : length A + t .size ≤ length (A ++ (str ++ B)) = omega (arith, length-append A (str ++ B), length-append str B) in
@@ -37,7 +38,7 @@ module _ (m : Mode) (limit : ℕ) (text : List ℕ) where
   laid-more : (at : ℕ) (t : Token) (ts : List Token) → Read m limit text at t → Laid (t .end .offset) ts → Laid at (t ∷ ts)
   unfolding Laid stringsOf recordsOf
   laid-more at t ts r w A B =
-      let str = stringOf m (drop (t .start .offset) text) in
+      let str = stringIn m (drop (t .start .offset) text) in
       let rest = stringsOf m text ts in
       let q : length (A ++ str) ≡ length A + stringSize (t .kind) (t .size) = omega (arith, length-append A str, r .string) in
       rw (append-assoc str rest B)

@@ -4,7 +4,7 @@ pub mod Laid
 pub mod Claims
 pub mod Rows
 pub mod Fits
-pub mod Judges
+pub mod Refusals
 pub mod Places
 pub mod Turns
 pub mod Wholes

@@ -17,17 +17,18 @@ use Rattle.scan.specs.Run.{endsTimestamp, inRun, unitPiece}
 use Rattle.scan.specs.Comment.{lexLineComment, openEnd, bodyEnd, openComment, lexBlockComment, blockNotes}
 use Rattle.scan.specs.Name.{nameKind, lexIdent, directive, lexDirective}
 use Rattle.scan.specs.Bytes.{bytesStop, lexBytes, bytesNotes}
-use Rattle.scan.specs.Number.{withPrecision, pastPoint, pastSign, pastExponent, pastFraction, atDurationUnit, lexDuration, valueEnd, lexTail, lexDigits, atInf, lexNumber}
+use Rattle.scan.specs.Number.{lexPrecision, pastPoint, pastSign, pastExponent, pastFraction, atDurationUnit, lexDuration, valueEnd, lexTail, lexTimestamp, lexDigits, atInf, lexNumber}
 use Rattle.scan.specs.Other.{lexOther}
 use Rattle.strings.specs.Piece.{hexOf, octOf, simpleOf, letters, hexPiece, octPiece, hexCount, hexValue, codePiece, escapePiece, pieceOf}
 use Rattle.strings.specs.Decode.{stepOf, letterDetail, stepNotes, decode}
 use Rattle.strings.specs.Literal.{wellFormed, literalOf, endReason, literalReason, endDetail, endOf, endNotes, literalNotes, lexString, stringBytes, stringNotes}
 use Rattle.lexer.specs.Lexer.{classOf, classAt, lexBy, lexemeOf, stringBy, stringOf, notesBy, notesOf}
+use Rattle.lexer.specs.Reading.{lexemeIn, stringIn, notesIn}
 use Rattle.lexer.specs.Token.{startAt, foundAt, nextToken, stringSize}
-use Rattle.reading.specs.Tokens.{andThen, tokensFor, tokensFrom, tokens}
+use Rattle.reading.specs.Tokens.{andThen, tokensFor, tokensTo, tokens}
 use Rattle.reading.specs.Buffers.{recordsOf, stringsOf, reportsOf, recordRows, reportRows}
 use Rattle.reading.specs.Miniature.{cases, AsThePaperSays}
 
 pub miniature-holds : AsThePaperSays
-unfolding cases run reach walk past sameBytes isDigit isLowerAlpha isIdentStart isIdentPart isDurationUnit isSpace utf8-char charSize validTo isTail charEnd codeBits decodeOf isScalar encodeOf scaleOf productOf nanosOf addDigit readDigits fracOf fractionNanos units unitOf valueFrom wholeEnd hasPoint fractionStart fractionEnd unitEnd wholeOf partUnit partFraction digitless partOf sumFrom finish unsigned parseOf mul div ofInt toUnsigned kindNumber placeAt reportOf endsTimestamp inRun unitPiece lexLineComment openEnd bodyEnd openComment lexBlockComment blockNotes nameKind lexIdent directive lexDirective bytesStop lexBytes bytesNotes withPrecision pastPoint pastSign pastExponent pastFraction atDurationUnit lexDuration valueEnd lexTail lexDigits atInf lexNumber lexOther hexOf octOf simpleOf letters hexPiece octPiece hexCount hexValue codePiece escapePiece pieceOf stepOf letterDetail stepNotes decode wellFormed literalOf endReason literalReason endDetail endOf endNotes literalNotes lexString stringBytes stringNotes classOf classAt lexBy lexemeOf stringBy stringOf notesBy notesOf startAt foundAt nextToken stringSize andThen tokensFor tokensFrom tokens recordsOf stringsOf reportsOf recordRows reportRows
+unfolding cases run reach walk past sameBytes isDigit isLowerAlpha isIdentStart isIdentPart isDurationUnit isSpace utf8-char charSize validTo isTail charEnd codeBits decodeOf isScalar encodeOf scaleOf productOf nanosOf addDigit readDigits fracOf fractionNanos units unitOf valueFrom wholeEnd hasPoint fractionStart fractionEnd unitEnd wholeOf partUnit partFraction digitless partOf sumFrom finish unsigned parseOf mul div ofInt toUnsigned kindNumber placeAt reportOf endsTimestamp inRun unitPiece lexLineComment openEnd bodyEnd openComment lexBlockComment blockNotes nameKind lexIdent directive lexDirective bytesStop lexBytes bytesNotes lexPrecision pastPoint pastSign pastExponent pastFraction atDurationUnit lexDuration valueEnd lexTail lexTimestamp lexDigits atInf lexNumber lexOther hexOf octOf simpleOf letters hexPiece octPiece hexCount hexValue codePiece escapePiece pieceOf stepOf letterDetail stepNotes decode wellFormed literalOf endReason literalReason endDetail endOf endNotes literalNotes lexString stringBytes stringNotes classOf classAt lexBy lexemeOf stringBy stringOf notesBy notesOf lexemeIn stringIn notesIn startAt foundAt nextToken stringSize andThen tokensFor tokensTo tokens recordsOf stringsOf reportsOf recordRows reportRows
 miniature-holds = refl

@@ -1,49 +1,67 @@
--- Whether a place is one of the text, and the answers of the place of an offset, each from the tests that led to it. Assumes nothing.
+-- Whether an offset is good and a place is one of the text, and the answers of the place of an offset, each from the tests that led to it.
+-- Assumes nothing.
 use mathlib.Core.Path.{_≡_, sym, ap, _∙_, subst}
 use mathlib.Core.Bool.{true, false, not, _&&_}
 use mathlib.Core.List.{List}
 use Prim.Native.Nat.{ℕ, _≤_, _<_}
 use lib.Dec.{leb, eqb}
 use lib.ListN.{length}
-use borrow.Author.Tests.{lt-ltb, le-ltb, le-leb, lt-leb, leb-true, eqb-true, eq-eqb, ne-eqb, not-true}
+use borrow.Author.Tests.{le-leb, lt-leb, leb-true, eqb-true, eq-eqb, ne-eqb, not-true}
 use Rattle.base.proofs.Tests.{and-left, and-right}
-use Rattle.limits.specs.Limits.{maxMessageSize}
 use Rattle.token.specs.Place.{placeAt}
 use Rattle.token.specs.declared.place.Place.{Place}
 use Rattle.token.proofs.Places.{place-offset}
-use Rattle.utf8.specs.Check.{checkOf, insideChar}
-use Rattle.utf8.specs.declared.check.Verdict.the-variants.{WellFormed, IllFormed}
+use Rattle.utf8.specs.Check.{insideChar}
+use Rattle.reading.specs.Refusals.{judgeOf, goodOffset}
 use Rattle.reading.specs.Answers.{isPlace, placeOfAnswer}
-use Rattle.reading.specs.declared.place.PlaceOf.the-variants.{At, TooLong, NotUtf8, NoPlace}
+use Rattle.reading.specs.declared.judge.Judged.the-variants.{Fit, Unfit}
+use Rattle.reading.specs.declared.refusal.Refusal.{Refusal}
+use Rattle.reading.specs.declared.refusal.Refusal.the-variants.{NoPlace}
+use Rattle.reading.specs.declared.place.PlaceOf.the-variants.{At, Refused}
 
 abbrev place : ℕ → ℕ → ℕ → Place
 place o l c = record { offset = o; line = l; column = c }
 
+-- ---- a good offset
+
+module _ (text : List ℕ) (i : ℕ) where
+  pub far : length text < i → false ≡ goodOffset text i
+  unfolding goodOffset
+  far h = rw (lt-leb _ _ h)
+
+  pub near : i ≤ length text → not (insideChar text i) ≡ goodOffset text i
+  unfolding goodOffset
+  near h = rw (le-leb _ _ h)
+
+  -- what it has
+  pub good-in : goodOffset text i ≡ true → i ≤ length text
+  unfolding goodOffset
+  good-in g = leb-true _ _ (and-left (leb i (length text)) (not (insideChar text i)) g)
+
+  pub good-between : goodOffset text i ≡ true → insideChar text i ≡ false
+  unfolding goodOffset
+  good-between g = not-true (insideChar text i) (and-right (leb i (length text)) (not (insideChar text i)) g)
+
 -- ---- a place that any numbers may make
 
 module _ (text : List ℕ) (p : Place) where
-  pub far : length text < p .offset → false ≡ isPlace text p
+  pub bad-offset : goodOffset text (p .offset) ≡ false → false ≡ isPlace text p
   unfolding isPlace
-  far h = rw (lt-leb _ _ h)
+  bad-offset g = rw g
 
-  module _ (h : p .offset ≤ length text) where
-    pub in-char : insideChar text (p .offset) ≡ true → false ≡ isPlace text p
+  module _ (g : goodOffset text (p .offset) ≡ true) (q : Place) (e : q ≡ placeAt text (p .offset)) where
+    pub other-line : (p .line ≡ q .line → ⊥) → false ≡ isPlace text p
     unfolding isPlace
-    in-char b = rw (le-leb _ _ h, b)
+    other-line n =
+        let d : p .line ≡ placeAt text (p .offset) .line → ⊥ = subst (λ (x : Place). p .line ≡ x .line → ⊥) e n in
+        rw (g, ne-eqb _ _ d)
 
-    module _ (b : insideChar text (p .offset) ≡ false) (q : Place) (e : q ≡ placeAt text (p .offset)) where
-      pub other-line : (p .line ≡ q .line → ⊥) → false ≡ isPlace text p
-      unfolding isPlace
-      other-line n =
-          let d : p .line ≡ placeAt text (p .offset) .line → ⊥ = subst (λ (x : Place). p .line ≡ x .line → ⊥) e n in
-          rw (le-leb _ _ h, b, ne-eqb _ _ d)
-
-      pub same-line : p .line ≡ q .line → eqb (p .column) (q .column) ≡ isPlace text p
-      unfolding isPlace
-      same-line l =
-          let d : p .line ≡ placeAt text (p .offset) .line = subst (λ (x : Place). p .line ≡ x .line) e l in
-          let c : q .column ≡ placeAt text (p .offset) .column = ap (λ (x : Place). x .column) e in
-          rw (le-leb _ _ h, b, eq-eqb _ _ d, c)
+    pub same-line : p .line ≡ q .line → eqb (p .column) (q .column) ≡ isPlace text p
+    unfolding isPlace
+    same-line l =
+        let d : p .line ≡ placeAt text (p .offset) .line = subst (λ (x : Place). p .line ≡ x .line) e l in
+        let c : q .column ≡ placeAt text (p .offset) .column = ap (λ (x : Place). x .column) e in
+        rw (g, eq-eqb _ _ d, c)
 
   -- what a place of the text has
   pub record IsPlace : Type 0 where
@@ -55,26 +73,24 @@ module _ (text : List ℕ) (p : Place) where
   unfolding isPlace
   place-is t =
       let q = placeAt text (p .offset) in
-      let i = leb (p .offset) (length text) in
-      let b = not (insideChar text (p .offset)) in
+      let o = goodOffset text (p .offset) in
       let l = eqb (p .line) (q .line) in
       let c = eqb (p .column) (q .column) in
-      let u = and-right i (b && (l && c)) t in
-      let v = and-right b (l && c) u in
-      let h : p .offset ≤ length text = leb-true _ _ (and-left i (b && (l && c)) t) in
-      let o : p .offset ≡ q .offset = sym (place-offset text (p .offset) h) in
+      let g = and-left o (l && c) t in
+      let v = and-right o (l && c) t in
+      let h = good-in text (p .offset) g in
       record {
         inside = h;
-        between = not-true (insideChar text (p .offset)) (and-left b (l && c) u);
+        between = good-between text (p .offset) g;
         true-place =
-            ap (λ (x : ℕ). place x (p .line) (p .column)) o
+            ap (λ (x : ℕ). place x (p .line) (p .column)) (sym (place-offset text (p .offset) h))
             ∙ ap (λ (x : ℕ). place (q .offset) x (p .column)) (eqb-true _ _ (and-left l c v))
             ∙ ap (λ (x : ℕ). place (q .offset) (q .line) x) (eqb-true _ _ (and-right l c v));
       }
 
   -- and what has this is one
   pub is-place : IsPlace → isPlace text p ≡ true
-  unfolding isPlace
+  unfolding isPlace goodOffset
   is-place w =
       let l : p .line ≡ placeAt text (p .offset) .line = ap (λ (x : Place). x .line) (w .true-place) in
       let c : p .column ≡ placeAt text (p .offset) .column = ap (λ (x : Place). x .column) (w .true-place) in
@@ -83,25 +99,15 @@ module _ (text : List ℕ) (p : Place) where
 -- ---- the place of an offset
 
 module _ (text : List ℕ) (i : ℕ) where
-  pub spot-long : maxMessageSize < length text → TooLong ≡ placeOfAnswer text i
+  pub spot-unfit : {x : Refusal} → judgeOf text ≡ Unfit x → Refused x ≡ placeOfAnswer text i
   unfolding placeOfAnswer
-  spot-long h = rw (lt-ltb _ _ h)
+  spot-unfit j = rw j
 
-  module _ (h : length text ≤ maxMessageSize) where
-    pub spot-not-utf8 : {n : ℕ} → checkOf text ≡ IllFormed n → NotUtf8 n ≡ placeOfAnswer text i
+  module _ (j : judgeOf text ≡ Fit) where
+    pub spot-bad : goodOffset text i ≡ false → Refused NoPlace ≡ placeOfAnswer text i
     unfolding placeOfAnswer
-    spot-not-utf8 g = rw (le-ltb _ _ h, g)
+    spot-bad g = rw (j, g)
 
-    module _ (g : checkOf text ≡ WellFormed) where
-      pub spot-far : length text < i → NoPlace ≡ placeOfAnswer text i
-      unfolding placeOfAnswer
-      spot-far l = rw (le-ltb _ _ h, g, lt-leb _ _ l)
-
-      module _ (l : i ≤ length text) where
-        pub spot-in-char : insideChar text i ≡ true → NoPlace ≡ placeOfAnswer text i
-        unfolding placeOfAnswer
-        spot-in-char b = rw (le-ltb _ _ h, g, le-leb _ _ l, b)
-
-        pub spot-at : insideChar text i ≡ false → {q : Place} → q ≡ placeAt text i → At q ≡ placeOfAnswer text i
-        unfolding placeOfAnswer
-        spot-at b e = rw (le-ltb _ _ h, g, le-leb _ _ l, b, e)
+    pub spot-at : goodOffset text i ≡ true → {q : Place} → q ≡ placeAt text i → At q ≡ placeOfAnswer text i
+    unfolding placeOfAnswer
+    spot-at g e = rw (j, g, e)

@@ -1,21 +1,23 @@
 -- The numbers of records and of reports: how many, one list after the other, and that they are those of no other list. By induction on the
 -- list. Assumes nothing.
 use mathlib.Core.Path.{_≡_, refl, sym, ap, _∙_}
-use mathlib.Core.List.{List, [], _∷_, _++_, map, append-assoc}
+use mathlib.Core.List.{List, [], _∷_, _++_, map, append-assoc, append-nil}
 use Prim.Native.Nat.{ℕ, suc, _+_, _*_}
 use native.Mathlib.Omega.{arith}
 use lib.IntN.{ℤ, pos, natAbs}
-use lib.ListN.{length, drop, getD}
+use lib.ListN.{length, drop, getD, length-map}
 use Rattle.base.specs.Choice.{pick}
-use Rattle.token.specs.Kind.{kindNumber}
+use Rattle.token.specs.Kind.{kindNumber, isString}
 use Rattle.token.specs.Layout.{recordWidth, reportWidth, recordNumbers, reportNumbers}
 use Rattle.token.specs.declared.layout.Record.{Record}
 use Rattle.token.specs.declared.layout.Report.{Report}
 use Rattle.lexeme.specs.Lexeme.{Note}
 use Rattle.lexeme.specs.Reports.{reportOf, notesNumbers}
-use Rattle.lexer.specs.Token.{isString, stringSize}
+use Rattle.lexer.specs.Token.{stringSize}
+use Rattle.lexer.specs.Reading.{stringIn, notesIn}
 use Rattle.lexer.specs.declared.next.Token.{Token}
-use Rattle.reading.specs.Buffers.{recordOf, recordsOf, recordRows, reportRows}
+use Rattle.lexer.specs.declared.reading.Reading.{Reading}
+use Rattle.reading.specs.Buffers.{recordOf, recordsOf, stringsOf, reportsOf, recordRows, reportRows}
 
 -- the record that is made of a token
 pub record-is : (p : ℕ) (t : Token) {k v : ℕ} {z : ℤ} → k ≡ kindNumber (t .kind) → v ≡ pick (isString (t .kind)) p (t .value) → z ≡ t .nanos
@@ -61,6 +63,22 @@ pub notes-rows : (text : List ℕ) (a : ℕ) (ns : List Note) → reportRows (ma
 unfolding reportRows notesNumbers
 notes-rows text a [] = refl
 notes-rows text a (n ∷ ns) = ap (λ (l : List ℤ). reportNumbers (reportOf text a n) ++ l) (notes-rows text a ns)
+
+-- the string and the reports of one token alone
+module _ (m : Reading) (limit : ℕ) (text : List ℕ) (t : Token) where
+  pub one-strings : stringsOf m text (t ∷ []) ≡ stringIn m (drop (t .start .offset) text)
+  unfolding stringsOf
+  one-strings = append-nil (stringIn m (drop (t .start .offset) text))
+
+  pub one-reports : reportsOf m limit text (t ∷ []) ≡ map (reportOf text (t .start .offset)) (notesIn m limit (drop (t .start .offset) text))
+  unfolding reportsOf
+  one-reports = append-nil (map (reportOf text (t .start .offset)) (notesIn m limit (drop (t .start .offset) text)))
+
+  pub one-count : length (reportsOf m limit text (t ∷ [])) ≡ length (notesIn m limit (drop (t .start .offset) text))
+  one-count = ap length one-reports ∙ length-map (notesIn m limit (drop (t .start .offset) text)) (reportOf text (t .start .offset))
+
+  pub one-rows : reportRows (reportsOf m limit text (t ∷ [])) ≡ notesNumbers text (t .start .offset) (notesIn m limit (drop (t .start .offset) text))
+  one-rows = ap reportRows one-reports ∙ notes-rows text (t .start .offset) (notesIn m limit (drop (t .start .offset) text))
 
 -- the record, and the report, that a row of numbers stores
 abbrev recordFrom : List ℤ → Record

@@ -1,83 +1,83 @@
--- "A string buffer as long as the text always suffices", of the answers of both calls. By cases on the tests. Assumes nothing.
-use mathlib.Core.Path.{_≡_, refl}
+-- "A string buffer as long as the text always suffices", of the answers of both calls: no check but that of the string buffer answers
+-- `StringsShort`. By cases on the tests. Assumes nothing.
+use mathlib.Core.Path.{_≡_, refl, ap, _∙_}
 use mathlib.Core.Bool.{Bool, true, false}
 use mathlib.Core.List.{List}
 use Prim.Native.Nat.{ℕ, _*_, _≤_}
 use native.Mathlib.Omega.{arith}
 use lib.Dec.{ltb}
-use lib.ListN.{length, drop}
+use lib.ListN.{length}
 use borrow.Author.Tests.{le-ltb}
 use Rattle.base.specs.Choice.{pick}
-use Rattle.limits.specs.Limits.{maxMessageSize}
 use Rattle.token.specs.Layout.{recordWidth, reportWidth}
 use Rattle.token.specs.declared.place.Place.{Place}
-use Rattle.utf8.specs.Check.{checkOf}
-use Rattle.utf8.specs.declared.check.Verdict.{Verdict}
-use Rattle.utf8.specs.declared.check.Verdict.the-variants.{WellFormed, IllFormed}
-use Rattle.lexeme.specs.declared.Mode.{Mode}
-use Rattle.lexer.specs.Lexer.{stringOf, notesOf}
 use Rattle.lexer.specs.Token.{nextToken}
 use Rattle.lexer.specs.declared.next.Token.{Token}
-use Rattle.reading.specs.Tokens.{tokens}
-use Rattle.reading.specs.Buffers.{stringsOf, reportsOf}
-use Rattle.reading.specs.Answers.{afterCheck, isPlace, readTextAnswer, readTokenAnswer}
+use Rattle.lexer.specs.declared.reading.Reading.{Reading}
+use Rattle.reading.specs.Buffers.{wholeLaid, oneLaid}
+use Rattle.reading.specs.Refusals.{judgeOf, afterJudge, afterRoom}
+use Rattle.reading.specs.Answers.{countsOf, isPlace, readTextAnswer, readTokenAnswer}
+use Rattle.reading.specs.declared.judge.Judged.{Judged}
+use Rattle.reading.specs.declared.judge.Judged.the-variants.{Fit, Unfit}
+use Rattle.reading.specs.declared.refusal.Refusal.the-variants.{NoPlace, TokensShort, StringsShort, ReportsShort}
 use Rattle.reading.specs.declared.one.ReadToken.the-variants as one
 use Rattle.reading.specs.declared.text.ReadText.the-variants as text-is
 use Rattle.reading.proofs.Nexts.{reads}
 use Rattle.reading.proofs.Fits.{string-size-le, strings-fit}
 use Rattle.reading.proofs.Places.{place-is}
+use Rattle.reading.proofs.Refusals.{judge-case}
+use Rattle.reading.proofs.Rows.{one-strings}
 
--- where that test does not refuse, no other answers `StringsShort`
-not-text : (b : Bool) (v : Verdict) (c d : Bool) (n s k : ℕ)
-    → pick b text-is.TooLong (afterCheck v text-is.NotUtf8 (pick c text-is.TokensShort (pick d text-is.ReportsShort (text-is.Counts n s k)))) ≡ text-is.StringsShort
-    → _≡_ {A = ℕ} 0 1
-not-text true v c d n s k e = cc
-not-text false (IllFormed i) c d n s k e = cc
-not-text false WellFormed true d n s k e = cc
-not-text false WellFormed false true n s k e = cc
-not-text false WellFormed false false n s k e = cc
+-- the checks of the text do not answer it
+not-judged : (text : List ℕ) → judgeOf text ≡ Unfit StringsShort → ⊥
+not-judged text =
+    judge-case text (λ (j : Judged). j ≡ Unfit StringsShort → ⊥)
+    (λ _ e. let z : _≡_ {A = ℕ} 0 1 = cc in omega arith) (λ n _ _ e. let z : _≡_ {A = ℕ} 0 1 = cc in omega arith) (λ _ _ e. let z : _≡_ {A = ℕ} 0 1 = cc in omega arith)
 
-not-token : (b : Bool) (v : Verdict) (f c d : Bool) (s k : ℕ) (q : Place)
-    → pick b one.TooLong (afterCheck v one.NotUtf8 (pick f (pick c one.TokensShort (pick d one.ReportsShort (one.One s k q))) one.NoPlace)) ≡ one.StringsShort
-    → _≡_ {A = ℕ} 0 1
-not-token true v f c d s k q e = cc
-not-token false (IllFormed i) f c d s k q e = cc
-not-token false WellFormed false c d s k q e = cc
-not-token false WellFormed true true d s k q e = cc
-not-token false WellFormed true false true s k q e = cc
-not-token false WellFormed true false false s k q e = cc
+-- nor do those of the other two buffers
+not-text : (c d : Bool) (n s k : ℕ)
+    → pick c (text-is.Refused TokensShort) (pick d (text-is.Refused ReportsShort) (text-is.Counts n s k)) ≡ text-is.Refused StringsShort → _≡_ {A = ℕ} 0 1
+not-text true d n s k e = cc
+not-text false true n s k e = cc
+not-text false false n s k e = cc
 
-module _ (m : Mode) (limit : ℕ) (text : List ℕ) (nt ns nr : ℕ) (h : length text ≤ ns) where
-  pub text-suffices : readTextAnswer m limit text nt ns nr ≡ text-is.StringsShort → ⊥
+not-token : (c d : Bool) (s k : ℕ) (q : Place)
+    → pick c (one.Refused TokensShort) (pick d (one.Refused ReportsShort) (one.One s k q)) ≡ one.Refused StringsShort → _≡_ {A = ℕ} 0 1
+not-token true d s k q e = cc
+not-token false true s k q e = cc
+not-token false false s k q e = cc
+
+module _ (m : Reading) (limit : ℕ) (text : List ℕ) (nt ns nr : ℕ) (h : length text ≤ ns) where
+  pub text-suffices : readTextAnswer m limit text nt ns nr ≡ text-is.Refused StringsShort → ⊥
   unfolding readTextAnswer
-  text-suffices e =
-      let ts = tokens m limit text in
-      let w : ltb ns (length (stringsOf m text ts)) ≡ false = le-ltb ns (length (stringsOf m text ts)) (omega (arith, strings-fit m limit text)) in
-      let z =
-      not-text (ltb maxMessageSize (length text)) (checkOf text) (ltb nt (length ts * recordWidth)) (ltb nr (length (reportsOf m limit text ts) * reportWidth)) (length ts) (length (stringsOf m text ts)) (length (reportsOf m limit text ts)) (rw w at e) in
-      omega arith
-
-  pub token-suffices : (p : Place) → readTokenAnswer m limit text p nt ns nr ≡ one.StringsShort → ⊥
-  unfolding readTokenAnswer
-  token-suffices p e = go (isPlace text p) refl
+  text-suffices = go (judgeOf text) refl
     where
-      t : Token
-      t = nextToken m limit text (p .offset)
-
-      str : List ℕ
-      str = stringOf m (drop (t .start .offset) text)
-
-      num : ℕ
-      num = length (notesOf m limit (drop (t .start .offset) text))
-
-      go : (b : Bool) → isPlace text p ≡ b → ⊥
-      go true f =
-          let r = reads m limit text (p .offset) (place-is text p f .inside) in
-          let w : ltb ns (length str) ≡ false = le-ltb ns (length str) (omega (arith, r .string, string-size-le (t .kind) (t .size), r .size-in, r .inside)) in
+      go : (j : Judged) → judgeOf text ≡ j
+          → afterJudge j text-is.Refused (afterRoom (wholeLaid m limit text) nt ns nr text-is.Refused (countsOf (wholeLaid m limit text))) ≡ text-is.Refused StringsShort → ⊥
+      go (Unfit x) j e = not-judged text (j ∙ cc)
+      go Fit j e =
+          let w : ltb ns (length (wholeLaid m limit text .strings)) ≡ false =
+          le-ltb ns (length (wholeLaid m limit text .strings)) (omega (arith, strings-fit m limit text)) in
+          let l = wholeLaid m limit text in
           let z =
-          not-token (ltb maxMessageSize (length text)) (checkOf text) true (ltb nt recordWidth) (ltb nr (num * reportWidth)) (length str) num (t .end) (rw (f, w) at e) in
+          not-text (ltb nt (length (l .records) * recordWidth)) (ltb nr (length (l .reports) * reportWidth)) (length (l .records)) (length (l .strings)) (length (l .reports)) (rw w at e) in
           omega arith
-      go false f =
+
+  pub token-suffices : (p : Place) → readTokenAnswer m limit text p nt ns nr ≡ one.Refused StringsShort → ⊥
+  unfolding readTokenAnswer
+  token-suffices p = go (judgeOf text) (isPlace text p) refl refl
+    where
+      go : (j : Judged) (b : Bool) → judgeOf text ≡ j → isPlace text p ≡ b
+          → afterJudge j one.Refused (pick b (afterRoom (oneLaid m limit text (p .offset)) nt ns nr one.Refused (one.One (length (oneLaid m limit text (p .offset) .strings)) (length (oneLaid m limit text (p .offset) .reports)) (nextToken m limit text (p .offset) .end))) (one.Refused NoPlace)) ≡ one.Refused StringsShort → ⊥
+      go (Unfit x) b j f e = not-judged text (j ∙ cc)
+      go Fit false j f e = let z : _≡_ {A = ℕ} 0 1 = cc in omega arith
+      go Fit true j f e =
+          let t : Token = nextToken m limit text (p .offset) in
+          let r = reads m limit text (p .offset) (place-is text p f .inside) in
+          let s = ap length (one-strings m limit text t) in
+          let w : ltb ns (length (oneLaid m limit text (p .offset) .strings)) ≡ false =
+          le-ltb ns (length (oneLaid m limit text (p .offset) .strings)) (omega (arith, s, r .string, string-size-le (t .kind) (t .size), r .size-in, r .inside)) in
+          let k = oneLaid m limit text (p .offset) in
           let z =
-          not-token (ltb maxMessageSize (length text)) (checkOf text) false (ltb nt recordWidth) (ltb nr (num * reportWidth)) (length str) num (t .end) (rw f at e) in
+          not-token (ltb nt (length (k .records) * recordWidth)) (ltb nr (length (k .reports) * reportWidth)) (length (k .strings)) (length (k .reports)) (t .end) (rw w at e) in
           omega arith

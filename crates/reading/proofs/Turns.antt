@@ -13,58 +13,58 @@ use Rattle.base.specs.Choice.{pick}
 use Rattle.base.proofs.Stores.{sets-append, empty}
 use Rattle.base.proofs.Tests.{pick-case}
 use Rattle.limits.specs.Limits.{maxMessageSize}
-use Rattle.token.specs.Kind.{kindNumber}
+use Rattle.token.specs.Kind.{kindNumber, isString}
 use Rattle.token.specs.Layout.{recordWidth, reportWidth, recordNumbers, Fits63, RecordFits}
 use Rattle.token.specs.Place.{firstPlace, placeAt, Walkable}
 use Rattle.token.specs.declared.place.Place.{Place}
-use Rattle.token.proofs.KindNumbers.{number-le}
+use Rattle.token.proofs.KindNumbers.{IsEof, number-le}
 use Rattle.token.proofs.Places.{Moved, place-moved, first-walkable, to-place}
 use Rattle.lexeme.specs.Reports.{reportOf, notesNumbers}
-use Rattle.lexeme.specs.declared.Mode.{Mode}
 use Rattle.lexeme.proofs.Notes.{notes-length}
-use Rattle.lexer.specs.Lexer.{stringOf, notesOf}
-use Rattle.lexer.specs.Token.{foundAt, endOf, tokenOf, nextToken, isString, stringSize}
+use Rattle.lexer.specs.Reading.{stringIn, notesIn}
+use Rattle.lexer.specs.Token.{foundAt, endOf, tokenOf, nextToken, stringSize}
 use Rattle.lexer.specs.declared.next.Found.{Found}
 use Rattle.lexer.specs.declared.next.Token.{Token}
+use Rattle.lexer.specs.declared.reading.Reading.{Reading}
 use Rattle.reading.specs.Tokens.{tokensFrom, tokens}
-use Rattle.reading.specs.Buffers.{recordOf, recordsOf, stringsOf, reportsOf, recordRows, reportRows}
+use Rattle.reading.specs.Buffers.{recordOf, recordsOf, stringsOf, reportsOf, recordRows, reportRows, wholeLaid}
 use Rattle.reading.specs.Passes.{Measured, Room, Written, RecordRoom, StringRoom, NotesRoom, TokenRoom, TokenPut}
 use Rattle.reading.proofs.Nexts.{Read, reads, end-offset}
 use Rattle.reading.proofs.From.{from-eof, from-more, from-head}
-use Rattle.reading.proofs.Rows.{report-rows-append, notes-rows}
+use Rattle.reading.proofs.Rows.{records-length, report-rows-append, notes-rows}
 use Rattle.reading.proofs.Fits.{string-size-le, strings-more, reports-more}
 
 -- ---- a token that a call gave
 
-module _ (m : Mode) (limit : ℕ) (text : List ℕ) (at : ℕ) (h : at ≤ length text) (t : Token) (e : t ≡ nextToken m limit text at) where
+module _ (m : Reading) (limit : ℕ) (text : List ℕ) (at : ℕ) (h : at ≤ length text) (t : Token) (e : t ≡ nextToken m limit text at) where
   pub read-of : Read m limit text at t
   read-of = subst (λ (u : Token). Read m limit text at u) (sym e) (reads m limit text at h)
 
-  pub eof-of : kindNumber (t .kind) ≡ 0 → tokensFrom m limit text at ≡ t ∷ []
-  eof-of = subst (λ (u : Token). kindNumber (u .kind) ≡ 0 → tokensFrom m limit text at ≡ u ∷ []) (sym e) (from-eof m limit text at h)
+  pub eof-of : IsEof (t .kind) → tokensFrom m limit text at ≡ t ∷ []
+  eof-of = subst (λ (u : Token). IsEof (u .kind) → tokensFrom m limit text at ≡ u ∷ []) (sym e) (from-eof m limit text at h)
 
-  pub more-of : (kindNumber (t .kind) ≡ 0 → ⊥) → tokensFrom m limit text at ≡ t ∷ tokensFrom m limit text (t .end .offset)
+  pub more-of : (IsEof (t .kind) → ⊥) → tokensFrom m limit text at ≡ t ∷ tokensFrom m limit text (t .end .offset)
   more-of =
-      subst (λ (u : Token). (kindNumber (u .kind) ≡ 0 → ⊥) → tokensFrom m limit text at ≡ u ∷ tokensFrom m limit text (u .end .offset)) (sym e)
+      subst (λ (u : Token). (IsEof (u .kind) → ⊥) → tokensFrom m limit text at ≡ u ∷ tokensFrom m limit text (u .end .offset)) (sym e)
       (from-more m limit text at h)
 
   head-of : (ts : List Token) × (tokensFrom m limit text at ≡ t ∷ ts)
   head-of = subst (λ (u : Token). (ts : List Token) × (tokensFrom m limit text at ≡ u ∷ ts)) (sym e) (from-head m limit text at h)
 
   -- only a String has a string, and an Eof has nothing
-  pub no-string : isString (t .kind) ≡ false → stringOf m (drop (t .start .offset) text) ≡ []
+  pub no-string : isString (t .kind) ≡ false → stringIn m (drop (t .start .offset) text) ≡ []
   unfolding stringSize
   no-string f = empty _ (read-of .string ∙ ap (λ (b : Bool). pick b (t .size) 0) f)
 
-  pub no-notes : t .reports ≡ 0 → notesOf m limit (drop (t .start .offset) text) ≡ []
+  pub no-notes : t .reports ≡ 0 → notesIn m limit (drop (t .start .offset) text) ≡ []
   no-notes z = empty _ (read-of .notes ∙ z)
 
-  eof-string : kindNumber (t .kind) ≡ 0 → stringOf m (drop (t .start .offset) text) ≡ []
+  eof-string : IsEof (t .kind) → stringIn m (drop (t .start .offset) text) ≡ []
   eof-string k =
       let r = read-of in
       empty _ (omega (arith, r .string, string-size-le (t .kind) (t .size), r .size-in, r .eof-start k, r .eof-end k))
 
-  eof-notes : kindNumber (t .kind) ≡ 0 → notesOf m limit (drop (t .start .offset) text) ≡ []
+  eof-notes : IsEof (t .kind) → notesIn m limit (drop (t .start .offset) text) ≡ []
   eof-notes k = let r = read-of in empty _ (omega (arith, r .notes, r .reports-in, r .eof-start k, r .eof-end k))
 
   -- its numbers fit a record, where the text is read and the strings before it lie in the text's length
@@ -91,7 +91,7 @@ module _ (m : Mode) (limit : ℕ) (text : List ℕ) (at : ℕ) (h : at ≤ lengt
 -- ---- the first pass
 
 -- what has been counted, with what is still to be counted, is the whole
-pub record Measuring (m : Mode) (limit : ℕ) (text : List ℕ) (at n s k : ℕ) : Type 0 where
+pub record Measuring (m : Reading) (limit : ℕ) (text : List ℕ) (at n s k : ℕ) : Type 0 where
   pub inside : at ≤ length text
   pub n-le : n ≤ at
   pub s-le : s ≤ at
@@ -100,16 +100,16 @@ pub record Measuring (m : Mode) (limit : ℕ) (text : List ℕ) (at n s k : ℕ)
   pub size : s + length (stringsOf m text (tokensFrom m limit text at)) ≡ length (stringsOf m text (tokens m limit text))
   pub reports : k + length (reportsOf m limit text (tokensFrom m limit text at)) ≡ length (reportsOf m limit text (tokens m limit text))
 
-pub measuring-start : (m : Mode) (limit : ℕ) (text : List ℕ) → Measuring m limit text 0 0 0 0
+pub measuring-start : (m : Reading) (limit : ℕ) (text : List ℕ) → Measuring m limit text 0 0 0 0
 unfolding tokens
 measuring-start m limit text =
     record { inside = omega arith; n-le = omega arith; s-le = omega arith; k-le = omega arith; count = omega arith; size = omega arith; reports = omega arith }
 
-nothing-left : (m : Mode) (limit : ℕ) (text : List ℕ) → (length (stringsOf m text []) ≡ 0) × (length (reportsOf m limit text []) ≡ 0)
+nothing-left : (m : Reading) (limit : ℕ) (text : List ℕ) → (length (stringsOf m text []) ≡ 0) × (length (reportsOf m limit text []) ≡ 0)
 unfolding stringsOf reportsOf
 nothing-left m limit text = (refl, refl)
 
-module _ {m : Mode} {limit : ℕ} {text : List ℕ} {at n s k : ℕ} (w : Measuring m limit text at n s k) {f : Found} (e : f ≡ foundAt m limit text at) where
+module _ {m : Reading} {limit : ℕ} {text : List ℕ} {at n s k : ℕ} (w : Measuring m limit text at n s k) {f : Found} (e : f ≡ foundAt m limit text at) where
   found-next : tokenOf text f ≡ nextToken m limit text at
   unfolding nextToken
   found-next = ap (tokenOf text) e
@@ -131,10 +131,10 @@ module _ {m : Mode} {limit : ℕ} {text : List ℕ} {at n s k : ℕ} (w : Measur
         omega (arith, found-end, r .inside),
       )
 
-  pub measuring-less : (kindNumber (f .lexeme .kind) ≡ 0 → ⊥) → length text - endOf f < length text - at
+  pub measuring-less : (IsEof (f .lexeme .kind) → ⊥) → length text - endOf f < length text - at
   measuring-less c = let r = found-read in omega (arith, r .forward c, r .after, r .inside, found-end)
 
-  pub measuring-turn : (kindNumber (f .lexeme .kind) ≡ 0 → ⊥) → Measuring m limit text (endOf f) (n + 1) (s + stringSize (f .lexeme .kind) (f .lexeme .size)) (k + f .lexeme .reports)
+  pub measuring-turn : (IsEof (f .lexeme .kind) → ⊥) → Measuring m limit text (endOf f) (n + 1) (s + stringSize (f .lexeme .kind) (f .lexeme .size)) (k + f .lexeme .reports)
   measuring-turn c =
       let t = tokenOf text f in
       let r = found-read in
@@ -154,7 +154,7 @@ module _ {m : Mode} {limit : ℕ} {text : List ℕ} {at n s k : ℕ} (w : Measur
         reports = omega (arith, rw q at (w .reports), reports-more m limit text t rest, r .notes);
       }
 
-  pub measuring-end : kindNumber (f .lexeme .kind) ≡ 0 → Measured m limit text (record { tokens = n + 1; strings = s; reports = k })
+  pub measuring-end : IsEof (f .lexeme .kind) → Measured (wholeLaid m limit text) (record { tokens = n + 1; strings = s; reports = k })
   measuring-end c =
       let t = tokenOf text f in
       let q : tokensFrom m limit text at ≡ t ∷ [] = eof-of m limit text at (w .inside) t found-next c in
@@ -162,7 +162,7 @@ module _ {m : Mode} {limit : ℕ} {text : List ℕ} {at n s k : ℕ} (w : Measur
       let b = ap length (eof-notes m limit text at (w .inside) t found-next c) in
       let z = nothing-left m limit text in
       record {
-        of-tokens = omega (arith, rw q at (w .count));
+        of-tokens = omega (arith, rw q at (w .count), records-length 0 (tokens m limit text));
         of-strings = omega (arith, rw q at (w .size), strings-more m limit text t []);
         of-reports = omega (arith, rw q at (w .reports), reports-more m limit text t []);
       }
@@ -170,7 +170,7 @@ module _ {m : Mode} {limit : ℕ} {text : List ℕ} {at n s k : ℕ} (w : Measur
 -- ---- the second pass
 
 -- what is still to be stored, stored from here on, makes the whole
-pub record Writing (m : Mode) (limit : ℕ) (text : List ℕ) (T : List ℤ) (S : List ℕ) (R T′ : List ℤ) (S′ : List ℕ) (R′ : List ℤ) (p : Place) (i s k : ℕ) : Type 0 where
+pub record Writing (m : Reading) (limit : ℕ) (text : List ℕ) (T : List ℤ) (S : List ℕ) (R T′ : List ℤ) (S′ : List ℕ) (R′ : List ℤ) (p : Place) (i s k : ℕ) : Type 0 where
   pub walkable : Walkable text p (p .offset)
   pub s-le : s ≤ p .offset
   pub records : sets T′ i (recordRows (recordsOf s (tokensFrom m limit text (p .offset)))) ≡ sets T 0 (recordRows (recordsOf 0 (tokens m limit text)))
@@ -183,13 +183,14 @@ pub record Writing (m : Mode) (limit : ℕ) (text : List ℕ) (T : List ℤ) (S 
   pub room-s : s + length (stringsOf m text (tokensFrom m limit text (p .offset))) ≤ length S
   pub room-r : k + length (reportsOf m limit text (tokensFrom m limit text (p .offset))) * reportWidth ≤ length R
 
-pub writing-start : (m : Mode) (limit : ℕ) (text : List ℕ) (T : List ℤ) (S : List ℕ) (R : List ℤ) (p : Place) → p ≡ firstPlace
-    → Room m limit text (length T) (length S) (length R) → Writing m limit text T S R T S R p 0 0 0
+pub writing-start : (m : Reading) (limit : ℕ) (text : List ℕ) (T : List ℤ) (S : List ℕ) (R : List ℤ) (p : Place) → p ≡ firstPlace
+    → length text ≤ maxMessageSize
+    → Room (wholeLaid m limit text) (length T) (length S) (length R) → Writing m limit text T S R T S R p 0 0 0
 unfolding tokens
-writing-start m limit text T S R p e h =
+writing-start m limit text T S R p e short h =
     rw e
     (record {
-      walkable = first-walkable text firstPlace refl (h .short) 0 (omega arith);
+      walkable = first-walkable text firstPlace refl short 0 (omega arith);
       s-le = omega arith;
       records = refl;
       strings = refl;
@@ -197,30 +198,30 @@ writing-start m limit text T S R p e h =
       len-t = refl;
       len-s = refl;
       len-r = refl;
-      room-t = omega (arith, h .for-tokens);
+      room-t = omega (arith, h .for-tokens, records-length 0 (tokensFrom m limit text 0));
       room-s = omega (arith, h .for-strings);
       room-r = omega (arith, h .for-reports);
     })
 
 -- the rows of a token and of those after it
-module _ (m : Mode) (limit : ℕ) (text : List ℕ) (t : Token) (ts : List Token) where
+module _ (m : Reading) (limit : ℕ) (text : List ℕ) (t : Token) (ts : List Token) where
   record-rows-more : (p : ℕ) → recordRows (recordsOf p (t ∷ ts)) ≡ recordNumbers (recordOf p t) ++ recordRows (recordsOf (p + stringSize (t .kind) (t .size)) ts)
   unfolding recordsOf recordRows
   record-rows-more p = refl
 
-  strings-append : stringsOf m text (t ∷ ts) ≡ stringOf m (drop (t .start .offset) text) ++ stringsOf m text ts
+  strings-append : stringsOf m text (t ∷ ts) ≡ stringIn m (drop (t .start .offset) text) ++ stringsOf m text ts
   unfolding stringsOf
   strings-append = refl
 
   pub report-rows-more : reportRows (reportsOf m limit text (t ∷ ts))
-      ≡ notesNumbers text (t .start .offset) (notesOf m limit (drop (t .start .offset) text)) ++ reportRows (reportsOf m limit text ts)
+      ≡ notesNumbers text (t .start .offset) (notesIn m limit (drop (t .start .offset) text)) ++ reportRows (reportsOf m limit text ts)
   unfolding reportsOf
   report-rows-more =
       let a = t .start .offset in
-      report-rows-append (map (reportOf text a) (notesOf m limit (drop a text))) (reportsOf m limit text ts)
-      ∙ ap (λ (l : List ℤ). l ++ reportRows (reportsOf m limit text ts)) (notes-rows text a (notesOf m limit (drop a text)))
+      report-rows-append (map (reportOf text a) (notesIn m limit (drop a text))) (reportsOf m limit text ts)
+      ∙ ap (λ (l : List ℤ). l ++ reportRows (reportsOf m limit text ts)) (notes-rows text a (notesIn m limit (drop a text)))
 
-module _ {m : Mode} {limit : ℕ} {text : List ℕ} {T : List ℤ} {S : List ℕ} {R T′ : List ℤ} {S′ : List ℕ} {R′ : List ℤ} {p : Place} {i s k : ℕ}
+module _ {m : Reading} {limit : ℕ} {text : List ℕ} {T : List ℤ} {S : List ℕ} {R T′ : List ℤ} {S′ : List ℕ} {R′ : List ℤ} {p : Place} {i s k : ℕ}
     (w : Writing m limit text T S R T′ S′ R′ p i s k) {t : Token} (e : t ≡ nextToken m limit text (p .offset)) where
   writing-read : Read m limit text (p .offset) t
   writing-read = read-of m limit text (p .offset) (w .walkable .inside) t e
@@ -228,7 +229,7 @@ module _ {m : Mode} {limit : ℕ} {text : List ℕ} {T : List ℤ} {S : List ℕ
   writing-head : (ts : List Token) × (tokensFrom m limit text (p .offset) ≡ t ∷ ts)
   writing-head = head-of m limit text (p .offset) (w .walkable .inside) t e
 
-  pub writing-less : (kindNumber (t .kind) ≡ 0 → ⊥) → length text - t .end .offset < length text - p .offset
+  pub writing-less : (IsEof (t .kind) → ⊥) → length text - t .end .offset < length text - p .offset
   writing-less c = let r = writing-read in omega (arith, r .forward c, r .after, r .inside)
 
   record-inside : i + recordWidth ≤ length T′
@@ -270,7 +271,7 @@ module _ {m : Mode} {limit : ℕ} {text : List ℕ} {T : List ℤ} {S : List ℕ
       record {
         counted = r .notes;
         walkable = to-place (t .start) (w .walkable .short) (r .start-true) (omega (arith, r .ordered, r .inside));
-        fits = omega (arith, reports-room, notes-length text (t .start .offset) (notesOf m limit (drop (t .start .offset) text)), r .notes);
+        fits = omega (arith, reports-room, notes-length text (t .start .offset) (notesIn m limit (drop (t .start .offset) text)), r .notes);
       }
 
   -- no index passes a buffer's length
@@ -282,8 +283,8 @@ module _ {m : Mode} {limit : ℕ} {text : List ℕ} {T : List ℤ} {S : List ℕ
     pub stored-length : length T″ ≡ length T
     stored-length = ap length et ∙ length-sets T′ i (recordNumbers (recordOf s t)) ∙ w .len-t
 
-    pub writing-turn : (kindNumber (t .kind) ≡ 0 → ⊥) → {S″ : List ℕ} → S″ ≡ sets S′ s (stringOf m (drop (t .start .offset) text)) → {R″ : List ℤ}
-        → R″ ≡ sets R′ k (notesNumbers text (t .start .offset) (notesOf m limit (drop (t .start .offset) text)))
+    pub writing-turn : (IsEof (t .kind) → ⊥) → {S″ : List ℕ} → S″ ≡ sets S′ s (stringIn m (drop (t .start .offset) text)) → {R″ : List ℤ}
+        → R″ ≡ sets R′ k (notesNumbers text (t .start .offset) (notesIn m limit (drop (t .start .offset) text)))
         → Writing m limit text T S R T″ S″ R″ (t .end) (i + recordWidth) (s + stringSize (t .kind) (t .size)) (k + t .reports * reportWidth)
     writing-turn c {S″} es {R″} er =
         let r = writing-read in
@@ -291,9 +292,9 @@ module _ {m : Mode} {limit : ℕ} {text : List ℕ} {T : List ℤ} {S : List ℕ
         let q : tokensFrom m limit text (p .offset) ≡ t ∷ tokensFrom m limit text (t .end .offset) = more-of m limit text (p .offset) (w .walkable .inside) t e c in
         let rest = tokensFrom m limit text (t .end .offset) in
         let row = recordNumbers (recordOf s t) in
-        let str = stringOf m (drop (t .start .offset) text) in
-        let rep = notesNumbers text (t .start .offset) (notesOf m limit (drop (t .start .offset) text)) in
-        let n : length rep ≡ t .reports * reportWidth = omega (arith, notes-length text (t .start .offset) (notesOf m limit (drop (t .start .offset) text)), r .notes) in
+        let str = stringIn m (drop (t .start .offset) text) in
+        let rep = notesNumbers text (t .start .offset) (notesIn m limit (drop (t .start .offset) text)) in
+        let n : length rep ≡ t .reports * reportWidth = omega (arith, notes-length text (t .start .offset) (notesIn m limit (drop (t .start .offset) text)), r .notes) in
         record {
           walkable = to-place (t .end) (w .walkable .short) (r .end-true) (r .inside);
           s-le = omega (arith, w .s-le, string-size-le (t .kind) (t .size), r .size-in, r .after);
@@ -309,8 +310,8 @@ module _ {m : Mode} {limit : ℕ} {text : List ℕ} {T : List ℤ} {S : List ℕ
           room-r = omega (arith, rw q at (w .room-r), reports-more m limit text t rest, r .notes);
         }
 
-    pub writing-end : kindNumber (t .kind) ≡ 0 → {S″ : List ℕ} → S″ ≡ sets S′ s (stringOf m (drop (t .start .offset) text)) → {R″ : List ℤ}
-        → R″ ≡ sets R′ k (notesNumbers text (t .start .offset) (notesOf m limit (drop (t .start .offset) text))) → Written m limit text T S R T″ S″ R″
+    pub writing-end : IsEof (t .kind) → {S″ : List ℕ} → S″ ≡ sets S′ s (stringIn m (drop (t .start .offset) text)) → {R″ : List ℤ}
+        → R″ ≡ sets R′ k (notesNumbers text (t .start .offset) (notesIn m limit (drop (t .start .offset) text))) → Written (wholeLaid m limit text) T S R T″ S″ R″
     unfolding recordsOf recordRows stringsOf reportsOf reportRows notesNumbers
     writing-end c es er =
         let q : tokensFrom m limit text (p .offset) ≡ t ∷ [] = eof-of m limit text (p .offset) (w .walkable .inside) t e c in
@@ -319,23 +320,24 @@ module _ {m : Mode} {limit : ℕ} {text : List ℕ} {T : List ℤ} {S : List ℕ
         record { records = et ∙ (rw q at (w .records)); strings = (rw a at es) ∙ (rw (q, a) at (w .strings)); reports = (rw b at er) ∙ (rw (q, b) at (w .reports)) }
 
 -- storing n tokens, s string bytes and k reports, and counting them
-pub record Passing (m : Mode) (limit : ℕ) (text : List ℕ) (T : List ℤ) (S : List ℕ) (R T′ : List ℤ) (S′ : List ℕ) (R′ : List ℤ) (p : Place) (n s k : ℕ) : Type 0 where
+pub record Passing (m : Reading) (limit : ℕ) (text : List ℕ) (T : List ℤ) (S : List ℕ) (R T′ : List ℤ) (S′ : List ℕ) (R′ : List ℤ) (p : Place) (n s k : ℕ) : Type 0 where
   pub writing : Writing m limit text T S R T′ S′ R′ p (n * recordWidth) s (k * reportWidth)
   pub counting : Measuring m limit text (p .offset) n s k
 
-pub passing-start : (m : Mode) (limit : ℕ) (text : List ℕ) (T : List ℤ) (S : List ℕ) (R : List ℤ) (p : Place) → p ≡ firstPlace
-    → Room m limit text (length T) (length S) (length R) → Passing m limit text T S R T S R p 0 0 0
-passing-start m limit text T S R p e h =
-    record { writing = writing-start m limit text T S R p e h; counting = rw e (measuring-start m limit text) }
+pub passing-start : (m : Reading) (limit : ℕ) (text : List ℕ) (T : List ℤ) (S : List ℕ) (R : List ℤ) (p : Place) → p ≡ firstPlace
+    → length text ≤ maxMessageSize
+    → Room (wholeLaid m limit text) (length T) (length S) (length R) → Passing m limit text T S R T S R p 0 0 0
+passing-start m limit text T S R p e short h =
+    record { writing = writing-start m limit text T S R p e short h; counting = rw e (measuring-start m limit text) }
 
-module _ {m : Mode} {limit : ℕ} {text : List ℕ} {T : List ℤ} {S : List ℕ} {R T′ : List ℤ} {S′ : List ℕ} {R′ : List ℤ} {p : Place} {n s k : ℕ}
+module _ {m : Reading} {limit : ℕ} {text : List ℕ} {T : List ℤ} {S : List ℕ} {R T′ : List ℤ} {S′ : List ℕ} {R′ : List ℤ} {p : Place} {n s k : ℕ}
     (w : Passing m limit text T S R T′ S′ R′ p n s k) {t : Token} (e : t ≡ nextToken m limit text (p .offset)) where
   pub token-room : AreBytes text → TokenRoom m limit text t (length T′) (n * recordWidth) (length S′) s (length R′) (k * reportWidth)
   token-room bytes =
       let v = w .writing in
       record { of-record = record-room v e bytes; of-string = string-room v e; of-notes = notes-room v e }
 
-  pub passing-less : (kindNumber (t .kind) ≡ 0 → ⊥) → length text - t .end .offset < length text - p .offset
+  pub passing-less : (IsEof (t .kind) → ⊥) → length text - t .end .offset < length text - p .offset
   passing-less = writing-less (w .writing) e
 
   found-is : tokenOf text (foundAt m limit text (p .offset)) ≡ t
@@ -356,14 +358,14 @@ module _ {m : Mode} {limit : ℕ} {text : List ℕ} {T : List ℤ} {S : List ℕ
     pub passing-lengths : (length T″ ≡ length T) × (length S″ ≡ length S) × (length R″ ≡ length R)
     passing-lengths =
         let v = w .writing in
-        let str = stringOf m (drop (t .start .offset) text) in
-        let rep = notesNumbers text (t .start .offset) (notesOf m limit (drop (t .start .offset) text)) in (
+        let str = stringIn m (drop (t .start .offset) text) in
+        let rep = notesNumbers text (t .start .offset) (notesIn m limit (drop (t .start .offset) text)) in (
           stored-length v e (d .of-record),
           ap length (d .of-string) ∙ length-sets S′ s str ∙ v .len-s,
           ap length (d .of-notes) ∙ length-sets R′ (k * reportWidth) rep ∙ v .len-r,
         )
 
-    pub passing-turn : (kindNumber (t .kind) ≡ 0 → ⊥)
+    pub passing-turn : (IsEof (t .kind) → ⊥)
         → Passing m limit text T S R T″ S″ R″ (t .end) (n + 1) (s + stringSize (t .kind) (t .size)) (k + t .reports)
     passing-turn c =
         let i : n * recordWidth + recordWidth ≡ (n + 1) * recordWidth = omega arith in
@@ -376,6 +378,6 @@ module _ {m : Mode} {limit : ℕ} {text : List ℕ} {T : List ℤ} {S : List ℕ
               (rw o (measuring-turn (w .counting) refl (λ z. c (number-is ∙ z))));
         }
 
-    pub passing-end : kindNumber (t .kind) ≡ 0 → Measured m limit text (record { tokens = n + 1; strings = s; reports = k }) × Written m limit text T S R T″ S″ R″
+    pub passing-end : IsEof (t .kind) → Measured (wholeLaid m limit text) (record { tokens = n + 1; strings = s; reports = k }) × Written (wholeLaid m limit text) T S R T″ S″ R″
     passing-end c =
         (measuring-end (w .counting) refl (sym number-is ∙ c), writing-end (w .writing) e (d .of-record) c (d .of-string) (d .of-notes))

@@ -9,19 +9,23 @@ use Rattle.base.specs.Choice.{pick}
 use Rattle.limits.specs.Limits.{maxMessageSize}
 use Rattle.utf8.specs.Check.{checkOf}
 use Rattle.utf8.specs.declared.check.Verdict.the-variants.{WellFormed}
-use Rattle.token.specs.Layout.{recordWidth, reportWidth, recordNumbers}
+use Rattle.token.specs.Kind.{eofNumber, stringNumber}
+use Rattle.token.specs.Layout.{recordWidth, reportWidth}
 use Rattle.token.specs.Place.{firstPlace}
 use Rattle.token.specs.declared.layout.Record.{Record}
+use Rattle.token.specs.declared.layout.Report.{Report}
 use Rattle.token.specs.declared.place.Place.{Place}
-use Rattle.lexeme.specs.declared.Mode.{Mode}
-use Rattle.reading.specs.Tokens.{tokens}
-use Rattle.reading.specs.Buffers.{recordsOf, stringsOf, reportsOf, reportRows}
+use Rattle.lexer.specs.declared.reading.Reading.{Reading}
+use Rattle.reading.specs.Buffers.{recordRows, reportRows, Laid, wholeLaid}
 use Rattle.reading.specs.Calls.{ReadsToken}
 use Rattle.reading.specs.declared.one.ReadToken.the-variants.{One}
 
--- an accepted call from the place p: the record that it stored, the string bytes and the numbers of reports that it wrote, and the place q "at
--- the token's end" that it gave
-pub record Call (m : Mode) (limit : ℕ) (text : List ℕ) (p : Place) (r : Record) (bytes : List ℕ) (numbers : List ℤ) (q : Place) : Type 0 where
+-- what a call lays of one token
+abbrev pub ofOne : Record → List ℕ → List Report → Laid
+ofOne r bytes reports = record { records = r ∷ []; strings = bytes; reports = reports }
+
+-- an accepted call from the place p: what it laid, and the place q "at the token's end" that it gave
+pub record Call (m : Reading) (limit : ℕ) (text : List ℕ) (p : Place) (l : Laid) (q : Place) : Type 0 where
   -- the buffers, lent and given back, and the counts
   pub T : List ℤ
   pub S : List ℕ
@@ -32,13 +36,13 @@ pub record Call (m : Mode) (limit : ℕ) (text : List ℕ) (p : Place) (r : Reco
   pub s : ℕ
   pub k : ℕ
   pub reads : ReadsToken m limit text p T S R (One s k q) T′ S′ R′
-  pub stored : take recordWidth T′ ≡ recordNumbers r
-  pub written : take s S′ ≡ bytes
-  pub reported : take (k * reportWidth) R′ ≡ numbers
+  pub stored : take recordWidth T′ ≡ recordRows (l .records)
+  pub written : take s S′ ≡ l .strings
+  pub reported : take (k * reportWidth) R′ ≡ reportRows (l .reports)
 
--- a record whose string, if it has one, has n bytes of other strings before it: "Each call lays its strings from the buffer's start"
-abbrev pub movedBy : ℕ → Record → Record
-movedBy n r =
+-- a record with another value place
+abbrev pub withValue : ℕ → Record → Record
+withValue v r =
     record {
       kind = r .kind;
       reason = r .reason;
@@ -47,34 +51,34 @@ movedBy n r =
       end = r .end;
       line = r .line;
       column = r .column;
-      value = pick (eqb (r .kind) 5) (n + r .value) (r .value);
+      value = v;
       size = r .size;
       precision = r .precision;
       digits = r .digits;
       nanos = r .nanos;
     }
 
--- calls from a place on until one gives the Eof, with n string bytes before them: the records, the strings and the reports, laid together
-pub data Calls (m : Mode) (limit : ℕ) (text : List ℕ) : ℕ → Place → List Record → List ℕ → List ℤ → Type 0 where
-  last : {n : ℕ} {p q : Place} {r : Record} {bytes : List ℕ} {numbers : List ℤ} → Call m limit text p r bytes numbers q → r .kind ≡ 0
-      → Calls m limit text n p (movedBy n r ∷ []) bytes numbers
-  more : {n : ℕ} {p q : Place} {r : Record} {bytes : List ℕ} {numbers : List ℤ} {rs : List Record} {ss : List ℕ} {ns : List ℤ}
-      → Call m limit text p r bytes numbers q → 0 < r .kind → Calls m limit text (n + length bytes) q rs ss ns
-      → Calls m limit text n p (movedBy n r ∷ rs) (bytes ++ ss) (numbers ++ ns)
+-- a record whose string, if it has one, has n bytes of other strings before it: "Each call lays its strings from the buffer's start"
+abbrev pub movedBy : ℕ → Record → Record
+movedBy n r = withValue (pick (eqb (r .kind) stringNumber) (n + r .value) (r .value)) r
 
--- the records, strings and reports of the whole reading
-pub record AsWhole (m : Mode) (limit : ℕ) (text : List ℕ) (rs : List Record) (ss : List ℕ) (ns : List ℤ) : Type 0 where
-  pub records : rs ≡ recordsOf 0 (tokens m limit text)
-  pub strings : ss ≡ stringsOf m text (tokens m limit text)
-  pub reports : ns ≡ reportRows (reportsOf m limit text (tokens m limit text))
+-- what is laid, and after it what is laid next
+abbrev pub joined : Laid → Laid → Laid
+joined a b = record { records = a .records ++ b .records; strings = a .strings ++ b .strings; reports = a .reports ++ b .reports }
 
--- calls from the first place on give what the whole reading gives
-abbrev pub ChainGivesWhole : Mode → ℕ → List ℕ → Type 0
-ChainGivesWhole m limit text = (rs : List Record) (ss : List ℕ) (ns : List ℤ) → Calls m limit text 0 firstPlace rs ss ns → AsWhole m limit text rs ss ns
+-- calls from a place on until one gives the Eof, with n string bytes before them: what they lay, laid together
+pub data Calls (m : Reading) (limit : ℕ) (text : List ℕ) : ℕ → Place → Laid → Type 0 where
+  last : {n : ℕ} {p q : Place} {r : Record} {bytes : List ℕ} {reports : List Report} → Call m limit text p (ofOne r bytes reports) q
+      → r .kind ≡ eofNumber → Calls m limit text n p (ofOne (movedBy n r) bytes reports)
+  more : {n : ℕ} {p q : Place} {r : Record} {bytes : List ℕ} {reports : List Report} {l : Laid} → Call m limit text p (ofOne r bytes reports) q
+      → eofNumber < r .kind → Calls m limit text (n + length bytes) q l → Calls m limit text n p (joined (ofOne (movedBy n r) bytes reports) l)
+
+-- calls from the first place on lay what the whole reading lays
+abbrev pub ChainGivesWhole : Reading → ℕ → List ℕ → Type 0
+ChainGivesWhole m limit text = (l : Laid) → Calls m limit text 0 firstPlace l → l ≡ wholeLaid m limit text
 
 -- and no call of them is refused, where the text is one that is read and each call is lent room for any token of it
-abbrev pub ChainRuns : Mode → ℕ → List ℕ → Type 0
+abbrev pub ChainRuns : Reading → ℕ → List ℕ → Type 0
 ChainRuns m limit text =
     length text ≤ maxMessageSize → checkOf text ≡ WellFormed → (T : List ℤ) (S : List ℕ) (R : List ℤ) → recordWidth ≤ length T
-    → length text ≤ length S → length text * reportWidth ≤ length R
-    → Calls m limit text 0 firstPlace (recordsOf 0 (tokens m limit text)) (stringsOf m text (tokens m limit text)) (reportRows (reportsOf m limit text (tokens m limit text)))
+    → length text ≤ length S → length text * reportWidth ≤ length R → Calls m limit text 0 firstPlace (wholeLaid m limit text)

@@ -6,13 +6,13 @@ use Prim.Native.Nat.{ℕ, _+_, _-_, _≤_, _<_}
 use lib.IntN.{ℤ}
 use lib.ListN.{length, take, drop, getD}
 use Rattle.go_duration.specs.Written.{SumOfParts}
+use Rattle.token.specs.Kind.{eofNumber, stringNumber, durationNumber}
 use Rattle.token.specs.Place.{newlines, sinceNewline}
 use Rattle.token.specs.declared.layout.Record.{Record}
 use Rattle.token.specs.declared.layout.Report.{Report}
-use Rattle.lexeme.specs.declared.Mode.{Mode}
-use Rattle.lexer.specs.Lexer.{stringOf}
-use Rattle.reading.specs.Tokens.{tokens}
-use Rattle.reading.specs.Buffers.{recordsOf, stringsOf, reportsOf, recordRows, reportRows}
+use Rattle.lexer.specs.Reading.{stringIn}
+use Rattle.lexer.specs.declared.reading.Reading.{Reading}
+use Rattle.reading.specs.Buffers.{recordRows, reportRows, Laid, wholeLaid}
 
 -- "The bytes of a token or a gap are those of the text from its start to its end"
 abbrev pub bytesOf : List ℕ → ℕ → ℕ → List ℕ
@@ -39,8 +39,8 @@ pub data Gaps (text : List ℕ) : ℕ → List Record → Type 0 where
 
 -- exactly one Eof, the last: "Eof is a token too, with start and end both the text's length"; every other token has a byte at least
 pub data OneEof (text : List ℕ) : List Record → Type 0 where
-  last : {r : Record} → r .kind ≡ 0 → r .start ≡ length text → r .end ≡ length text → OneEof text (r ∷ [])
-  more : {r : Record} {rs : List Record} → 0 < r .kind → r .start < r .end → OneEof text rs → OneEof text (r ∷ rs)
+  last : {r : Record} → r .kind ≡ eofNumber → r .start ≡ length text → r .end ≡ length text → OneEof text (r ∷ [])
+  more : {r : Record} {rs : List Record} → eofNumber < r .kind → r .start < r .end → OneEof text rs → OneEof text (r ∷ rs)
 
 -- a line and a column are those of an offset: "newlines and bytes before it are those of the text"
 pub record TruePlace (text : List ℕ) (offset l c : ℕ) : Type 0 where
@@ -62,33 +62,31 @@ abbrev pub ReportPlace : List ℕ → Report → Type 0
 ReportPlace text r = TruePlace text (r .offset) (r .line) (r .column)
 
 -- "A String's value lies in the string buffer": at its value place, as many bytes as its value length, stand the decoded bytes of its token
-abbrev pub ValueIn : Mode → List ℕ → List ℕ → Record → Type 0
+abbrev pub ValueIn : Reading → List ℕ → List ℕ → Record → Type 0
 ValueIn m text S r =
-    r .kind ≡ 5 → (r .value + r .size ≤ length S) × (take (r .size) (drop (r .value) S) ≡ stringOf m (drop (r .start) text))
+    r .kind ≡ stringNumber → (r .value + r .size ≤ length S) × (take (r .size) (drop (r .value) S) ≡ stringIn m (drop (r .start) text))
 
 -- "A Duration is written in the bytes from its start to its end", and is the sum of its parts within one nanosecond for each written fraction.
 -- A run is written in one way only: laws `same-written` and `same-sign` of go_duration.
 abbrev pub DurationSum : List ℕ → Record → Type 0
-DurationSum text r = r .kind ≡ 12 → SumOfParts (bytesOf text (r .start) (r .end)) (r .nanos)
+DurationSum text r = r .kind ≡ durationNumber → SumOfParts (bytesOf text (r .start) (r .end)) (r .nanos)
 
 -- the claim about what the three buffers hold: T the numbers of the tokens, S the strings, R the numbers of the reports
-pub record Demand3 (m : Mode) (limit : ℕ) (text : List ℕ) (T : List ℤ) (S : List ℕ) (R : List ℤ) : Type 0 where
-  pub records : List Record
-  pub reports : List Report
-  -- the buffers hold these records and reports
-  pub held-records : T ≡ recordRows records
-  pub held-reports : R ≡ reportRows reports
+pub record Demand3 (m : Reading) (limit : ℕ) (text : List ℕ) (T : List ℤ) (S : List ℕ) (R : List ℤ) : Type 0 where
+  -- the buffers hold these records, strings and reports
+  pub laid : Laid
+  pub held-records : T ≡ recordRows (laid .records)
+  pub held-strings : S ≡ laid .strings
+  pub held-reports : R ≡ reportRows (laid .reports)
   -- demand 2's tokens, strings and reports
-  pub as-the-rust : records ≡ recordsOf 0 (tokens m limit text)
-  pub strings : S ≡ stringsOf m text (tokens m limit text)
-  pub as-reported : reports ≡ reportsOf m limit text (tokens m limit text)
+  pub as-the-rust : laid ≡ wholeLaid m limit text
   -- each String's bytes in the buffer are its value
-  pub values : Each (ValueIn m text S) records
+  pub values : Each (ValueIn m text (laid .strings)) (laid .records)
   -- in order, each after its gap, they give the text back byte for byte
-  pub tiles : Tiles text 0 records
-  pub gives-back : pieces text 0 records ≡ text
-  pub gaps : Gaps text 0 records
-  pub one-eof : OneEof text records
-  pub places : Each (TokenPlace text) records
-  pub report-places : Each (ReportPlace text) reports
-  pub durations : Each (DurationSum text) records
+  pub tiles : Tiles text 0 (laid .records)
+  pub gives-back : pieces text 0 (laid .records) ≡ text
+  pub gaps : Gaps text 0 (laid .records)
+  pub one-eof : OneEof text (laid .records)
+  pub places : Each (TokenPlace text) (laid .records)
+  pub report-places : Each (ReportPlace text) (laid .reports)
+  pub durations : Each (DurationSum text) (laid .records)

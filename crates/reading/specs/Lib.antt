@@ -1,5 +1,6 @@
 pub mod Tokens
 pub mod Buffers
+pub mod Refusals
 pub mod Answers
 pub mod Claim
 pub mod Calls

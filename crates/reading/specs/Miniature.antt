@@ -1,34 +1,53 @@
 -- Document 01's "Boats in miniature": each text with its mode and limit, the numbers of its tokens, its strings and its reports.
 use mathlib.Core.Path.{_≡_}
-use mathlib.Core.List.{List, [], _∷_, map}
+use mathlib.Core.List.{List, [], _∷_, _++_, map}
 use Prim.Native.Nat.{ℕ}
 use lib.IntN.{ℤ, pos, negsuc}
 use Rattle.limits.specs.Limits.{maxBytesLiteralLength}
-use Rattle.lexeme.specs.declared.Mode.{Mode}
-use Rattle.lexeme.specs.declared.Mode.the-variants.{Strict, Tolerant}
-use Rattle.reading.specs.Tokens.{tokens}
-use Rattle.reading.specs.Buffers.{recordsOf, stringsOf, reportsOf, recordRows, reportRows}
+use Rattle.lexer.specs.declared.reading.Reading.{Reading}
+use Rattle.lexer.specs.declared.reading.Reading.the-variants.{Strict, Tolerant}
+use Rattle.reading.specs.Buffers.{recordRows, reportRows, Laid, wholeLaid}
 
--- what a whole reading lays into the three buffers
-pub record Laid : Type 0 where
+-- the numbers of a token: "kind, reason, detail, start, end, line, column, value place, value length, precision place, precision length,
+-- nanoseconds"
+abbrev row : ℕ → ℕ → ℕ → ℕ → ℕ → ℕ → ℕ → ℕ → ℕ → ℕ → ℕ → ℤ → List ℤ
+row kind reason detail start end line column value size precision digits nanos =
+    pos kind ∷ pos reason ∷ pos detail ∷ pos start ∷ pos end ∷ pos line ∷ pos column ∷ pos value ∷ pos size ∷ pos precision ∷ pos digits
+    ∷ nanos ∷ []
+
+-- the numbers of a report: "reason, detail, offset, line, column"
+abbrev report : ℕ → ℕ → ℕ → ℕ → ℕ → List ℤ
+report reason detail offset line column = pos reason ∷ pos detail ∷ pos offset ∷ pos line ∷ pos column ∷ []
+
+-- a text, how it is read, and what its tokens, strings and reports are
+pub record Case : Type 0 where
+  pub text : List ℕ
+  pub mode : Reading
+  pub limit : ℕ
+  pub tokens : List (List ℤ)
+  pub strings : List ℕ
+  pub reports : List (List ℤ)
+
+-- what the three buffers hold
+pub record Held : Type 0 where
   pub records : List ℤ
   pub strings : List ℕ
   pub reports : List ℤ
 
-pub record Case : Type 0 where
-  pub text : List ℕ
-  pub mode : Mode
-  pub limit : ℕ
-  pub want : Laid
+abbrev flat : List (List ℤ) → List ℤ
+flat [] = []
+flat (r ∷ rs) = r ++ flat rs
 
--- what the definitions give for a case
-abbrev pub laid : Case → Laid
-laid c =
-    record {
-      records = recordRows (recordsOf 0 (tokens (c .mode) (c .limit) (c .text)));
-      strings = stringsOf (c .mode) (c .text) (tokens (c .mode) (c .limit) (c .text));
-      reports = reportRows (reportsOf (c .mode) (c .limit) (c .text) (tokens (c .mode) (c .limit) (c .text)));
-    }
+-- what a case wants in them
+abbrev pub wanted : Case → Held
+wanted c = record { records = flat (c .tokens); strings = c .strings; reports = flat (c .reports) }
+
+abbrev stored : Laid → Held
+stored l = record { records = recordRows (l .records); strings = l .strings; reports = reportRows (l .reports) }
+
+-- what the whole reading lays into them
+abbrev pub held : Case → Held
+held c = stored (wholeLaid (c .mode) (c .limit) (c .text))
 
 -- the table
 unfoldable pub cases : List Case
@@ -38,11 +57,9 @@ cases =
       text = [];
       mode = Strict;
       limit = maxBytesLiteralLength;
-      want = record {
-        records = pos 0 ∷ pos 0 ∷ pos 0 ∷ pos 0 ∷ pos 0 ∷ pos 1 ∷ pos 1 ∷ pos 0 ∷ pos 0 ∷ pos 0 ∷ pos 0 ∷ pos 0 ∷ [];
-        strings = [];
-        reports = [];
-      };
+      tokens = row 0 0 0 0 0 1 1 0 0 0 0 (pos 0) ∷ [];
+      strings = [];
+      reports = [];
     }
     ∷
     -- `1.ms`, strict
@@ -50,11 +67,9 @@ cases =
       text = 49 ∷ 46 ∷ 109 ∷ 115 ∷ [];
       mode = Strict;
       limit = maxBytesLiteralLength;
-      want = record {
-        records = pos 7 ∷ pos 0 ∷ pos 0 ∷ pos 0 ∷ pos 2 ∷ pos 1 ∷ pos 1 ∷ pos 0 ∷ pos 2 ∷ pos 0 ∷ pos 0 ∷ pos 0 ∷ pos 4 ∷ pos 0 ∷ pos 0 ∷ pos 2 ∷ pos 4 ∷ pos 1 ∷ pos 3 ∷ pos 2 ∷ pos 2 ∷ pos 0 ∷ pos 0 ∷ pos 0 ∷ pos 0 ∷ pos 0 ∷ pos 0 ∷ pos 4 ∷ pos 4 ∷ pos 1 ∷ pos 5 ∷ pos 4 ∷ pos 0 ∷ pos 0 ∷ pos 0 ∷ pos 0 ∷ [];
-        strings = [];
-        reports = [];
-      };
+      tokens = row 7 0 0 0 2 1 1 0 2 0 0 (pos 0) ∷ row 4 0 0 2 4 1 3 2 2 0 0 (pos 0) ∷ row 0 0 0 4 4 1 5 4 0 0 0 (pos 0) ∷ [];
+      strings = [];
+      reports = [];
     }
     ∷
     -- `1.5ms`, strict
@@ -62,11 +77,9 @@ cases =
       text = 49 ∷ 46 ∷ 53 ∷ 109 ∷ 115 ∷ [];
       mode = Strict;
       limit = maxBytesLiteralLength;
-      want = record {
-        records = pos 12 ∷ pos 0 ∷ pos 0 ∷ pos 0 ∷ pos 5 ∷ pos 1 ∷ pos 1 ∷ pos 0 ∷ pos 5 ∷ pos 0 ∷ pos 0 ∷ pos 1500000 ∷ pos 0 ∷ pos 0 ∷ pos 0 ∷ pos 5 ∷ pos 5 ∷ pos 1 ∷ pos 6 ∷ pos 5 ∷ pos 0 ∷ pos 0 ∷ pos 0 ∷ pos 0 ∷ [];
-        strings = [];
-        reports = [];
-      };
+      tokens = row 12 0 0 0 5 1 1 0 5 0 0 (pos 1500000) ∷ row 0 0 0 5 5 1 6 5 0 0 0 (pos 0) ∷ [];
+      strings = [];
+      reports = [];
     }
     ∷
     -- `/* a`, strict
@@ -74,11 +87,9 @@ cases =
       text = 47 ∷ 42 ∷ 32 ∷ 97 ∷ [];
       mode = Strict;
       limit = maxBytesLiteralLength;
-      want = record {
-        records = pos 1 ∷ pos 2 ∷ pos 0 ∷ pos 0 ∷ pos 3 ∷ pos 1 ∷ pos 1 ∷ pos 3 ∷ pos 0 ∷ pos 0 ∷ pos 0 ∷ pos 0 ∷ pos 4 ∷ pos 0 ∷ pos 0 ∷ pos 3 ∷ pos 4 ∷ pos 1 ∷ pos 4 ∷ pos 3 ∷ pos 1 ∷ pos 0 ∷ pos 0 ∷ pos 0 ∷ pos 0 ∷ pos 0 ∷ pos 0 ∷ pos 4 ∷ pos 4 ∷ pos 1 ∷ pos 5 ∷ pos 4 ∷ pos 0 ∷ pos 0 ∷ pos 0 ∷ pos 0 ∷ [];
-        strings = [];
-        reports = [];
-      };
+      tokens = row 1 2 0 0 3 1 1 3 0 0 0 (pos 0) ∷ row 4 0 0 3 4 1 4 3 1 0 0 (pos 0) ∷ row 0 0 0 4 4 1 5 4 0 0 0 (pos 0) ∷ [];
+      strings = [];
+      reports = [];
     }
     ∷
     -- `/* a`, tolerant
@@ -86,11 +97,9 @@ cases =
       text = 47 ∷ 42 ∷ 32 ∷ 97 ∷ [];
       mode = Tolerant;
       limit = maxBytesLiteralLength;
-      want = record {
-        records = pos 3 ∷ pos 0 ∷ pos 0 ∷ pos 0 ∷ pos 4 ∷ pos 1 ∷ pos 1 ∷ pos 0 ∷ pos 4 ∷ pos 0 ∷ pos 0 ∷ pos 0 ∷ pos 0 ∷ pos 0 ∷ pos 0 ∷ pos 4 ∷ pos 4 ∷ pos 1 ∷ pos 5 ∷ pos 4 ∷ pos 0 ∷ pos 0 ∷ pos 0 ∷ pos 0 ∷ [];
-        strings = [];
-        reports = pos 2 ∷ pos 0 ∷ pos 0 ∷ pos 1 ∷ pos 1 ∷ [];
-      };
+      tokens = row 3 0 0 0 4 1 1 0 4 0 0 (pos 0) ∷ row 0 0 0 4 4 1 5 4 0 0 0 (pos 0) ∷ [];
+      strings = [];
+      reports = report 2 0 0 1 1 ∷ [];
     }
     ∷
     -- `"\é"`, strict
@@ -98,11 +107,9 @@ cases =
       text = 34 ∷ 92 ∷ 195 ∷ 169 ∷ 34 ∷ [];
       mode = Strict;
       limit = maxBytesLiteralLength;
-      want = record {
-        records = pos 1 ∷ pos 9 ∷ pos 195 ∷ pos 0 ∷ pos 4 ∷ pos 1 ∷ pos 1 ∷ pos 4 ∷ pos 0 ∷ pos 0 ∷ pos 0 ∷ pos 0 ∷ pos 1 ∷ pos 10 ∷ pos 0 ∷ pos 4 ∷ pos 5 ∷ pos 1 ∷ pos 5 ∷ pos 5 ∷ pos 0 ∷ pos 0 ∷ pos 0 ∷ pos 0 ∷ pos 0 ∷ pos 0 ∷ pos 0 ∷ pos 5 ∷ pos 5 ∷ pos 1 ∷ pos 6 ∷ pos 5 ∷ pos 0 ∷ pos 0 ∷ pos 0 ∷ pos 0 ∷ [];
-        strings = [];
-        reports = [];
-      };
+      tokens = row 1 9 195 0 4 1 1 4 0 0 0 (pos 0) ∷ row 1 10 0 4 5 1 5 5 0 0 0 (pos 0) ∷ row 0 0 0 5 5 1 6 5 0 0 0 (pos 0) ∷ [];
+      strings = [];
+      reports = [];
     }
     ∷
     -- `"\u12zz"`, tolerant
@@ -110,11 +117,9 @@ cases =
       text = 34 ∷ 92 ∷ 117 ∷ 49 ∷ 50 ∷ 122 ∷ 122 ∷ 34 ∷ [];
       mode = Tolerant;
       limit = maxBytesLiteralLength;
-      want = record {
-        records = pos 5 ∷ pos 0 ∷ pos 0 ∷ pos 0 ∷ pos 8 ∷ pos 1 ∷ pos 1 ∷ pos 0 ∷ pos 4 ∷ pos 0 ∷ pos 0 ∷ pos 0 ∷ pos 0 ∷ pos 0 ∷ pos 0 ∷ pos 8 ∷ pos 8 ∷ pos 1 ∷ pos 9 ∷ pos 8 ∷ pos 0 ∷ pos 0 ∷ pos 0 ∷ pos 0 ∷ [];
-        strings = 92 ∷ 117 ∷ 122 ∷ 122 ∷ [];
-        reports = pos 7 ∷ pos 0 ∷ pos 2 ∷ pos 1 ∷ pos 3 ∷ [];
-      };
+      tokens = row 5 0 0 0 8 1 1 0 4 0 0 (pos 0) ∷ row 0 0 0 8 8 1 9 8 0 0 0 (pos 0) ∷ [];
+      strings = 92 ∷ 117 ∷ 122 ∷ 122 ∷ [];
+      reports = report 7 0 2 1 3 ∷ [];
     }
     ∷
     -- `-9223372036854775808ns`, strict
@@ -122,11 +127,9 @@ cases =
       text = 45 ∷ 57 ∷ 50 ∷ 50 ∷ 51 ∷ 51 ∷ 55 ∷ 50 ∷ 48 ∷ 51 ∷ 54 ∷ 56 ∷ 53 ∷ 52 ∷ 55 ∷ 55 ∷ 53 ∷ 56 ∷ 48 ∷ 56 ∷ 110 ∷ 115 ∷ [];
       mode = Strict;
       limit = maxBytesLiteralLength;
-      want = record {
-        records = pos 12 ∷ pos 0 ∷ pos 0 ∷ pos 0 ∷ pos 22 ∷ pos 1 ∷ pos 1 ∷ pos 0 ∷ pos 22 ∷ pos 0 ∷ pos 0 ∷ negsuc 9223372036854775807 ∷ pos 0 ∷ pos 0 ∷ pos 0 ∷ pos 22 ∷ pos 22 ∷ pos 1 ∷ pos 23 ∷ pos 22 ∷ pos 0 ∷ pos 0 ∷ pos 0 ∷ pos 0 ∷ [];
-        strings = [];
-        reports = [];
-      };
+      tokens = row 12 0 0 0 22 1 1 0 22 0 0 (negsuc 9223372036854775807) ∷ row 0 0 0 22 22 1 23 22 0 0 0 (pos 0) ∷ [];
+      strings = [];
+      reports = [];
     }
     ∷
     -- `9223372036854775808ns`, strict
@@ -134,11 +137,9 @@ cases =
       text = 57 ∷ 50 ∷ 50 ∷ 51 ∷ 51 ∷ 55 ∷ 50 ∷ 48 ∷ 51 ∷ 54 ∷ 56 ∷ 53 ∷ 52 ∷ 55 ∷ 55 ∷ 53 ∷ 56 ∷ 48 ∷ 56 ∷ 110 ∷ 115 ∷ [];
       mode = Strict;
       limit = maxBytesLiteralLength;
-      want = record {
-        records = pos 1 ∷ pos 18 ∷ pos 0 ∷ pos 0 ∷ pos 21 ∷ pos 1 ∷ pos 1 ∷ pos 21 ∷ pos 0 ∷ pos 0 ∷ pos 0 ∷ pos 0 ∷ pos 0 ∷ pos 0 ∷ pos 0 ∷ pos 21 ∷ pos 21 ∷ pos 1 ∷ pos 22 ∷ pos 21 ∷ pos 0 ∷ pos 0 ∷ pos 0 ∷ pos 0 ∷ [];
-        strings = [];
-        reports = [];
-      };
+      tokens = row 1 18 0 0 21 1 1 21 0 0 0 (pos 0) ∷ row 0 0 0 21 21 1 22 21 0 0 0 (pos 0) ∷ [];
+      strings = [];
+      reports = [];
     }
     ∷
     -- `9223372036854775808ns9223372036854775808ns`, strict
@@ -146,11 +147,9 @@ cases =
       text = 57 ∷ 50 ∷ 50 ∷ 51 ∷ 51 ∷ 55 ∷ 50 ∷ 48 ∷ 51 ∷ 54 ∷ 56 ∷ 53 ∷ 52 ∷ 55 ∷ 55 ∷ 53 ∷ 56 ∷ 48 ∷ 56 ∷ 110 ∷ 115 ∷ 57 ∷ 50 ∷ 50 ∷ 51 ∷ 51 ∷ 55 ∷ 50 ∷ 48 ∷ 51 ∷ 54 ∷ 56 ∷ 53 ∷ 52 ∷ 55 ∷ 55 ∷ 53 ∷ 56 ∷ 48 ∷ 56 ∷ 110 ∷ 115 ∷ [];
       mode = Strict;
       limit = maxBytesLiteralLength;
-      want = record {
-        records = pos 1 ∷ pos 18 ∷ pos 0 ∷ pos 0 ∷ pos 42 ∷ pos 1 ∷ pos 1 ∷ pos 42 ∷ pos 0 ∷ pos 0 ∷ pos 0 ∷ pos 0 ∷ pos 0 ∷ pos 0 ∷ pos 0 ∷ pos 42 ∷ pos 42 ∷ pos 1 ∷ pos 43 ∷ pos 42 ∷ pos 0 ∷ pos 0 ∷ pos 0 ∷ pos 0 ∷ [];
-        strings = [];
-        reports = [];
-      };
+      tokens = row 1 18 0 0 42 1 1 42 0 0 0 (pos 0) ∷ row 0 0 0 42 42 1 43 42 0 0 0 (pos 0) ∷ [];
+      strings = [];
+      reports = [];
     }
     ∷
     -- `b"AAAA"`, strict, limit 3
@@ -158,11 +157,9 @@ cases =
       text = 98 ∷ 34 ∷ 65 ∷ 65 ∷ 65 ∷ 65 ∷ 34 ∷ [];
       mode = Strict;
       limit = 3;
-      want = record {
-        records = pos 10 ∷ pos 0 ∷ pos 0 ∷ pos 0 ∷ pos 7 ∷ pos 1 ∷ pos 1 ∷ pos 2 ∷ pos 4 ∷ pos 0 ∷ pos 0 ∷ pos 0 ∷ pos 0 ∷ pos 0 ∷ pos 0 ∷ pos 7 ∷ pos 7 ∷ pos 1 ∷ pos 8 ∷ pos 7 ∷ pos 0 ∷ pos 0 ∷ pos 0 ∷ pos 0 ∷ [];
-        strings = [];
-        reports = [];
-      };
+      tokens = row 10 0 0 0 7 1 1 2 4 0 0 (pos 0) ∷ row 0 0 0 7 7 1 8 7 0 0 0 (pos 0) ∷ [];
+      strings = [];
+      reports = [];
     }
     ∷
     -- `b"AAAA"`, strict, limit 2
@@ -170,11 +167,9 @@ cases =
       text = 98 ∷ 34 ∷ 65 ∷ 65 ∷ 65 ∷ 65 ∷ 34 ∷ [];
       mode = Strict;
       limit = 2;
-      want = record {
-        records = pos 1 ∷ pos 13 ∷ pos 0 ∷ pos 0 ∷ pos 6 ∷ pos 1 ∷ pos 1 ∷ pos 6 ∷ pos 0 ∷ pos 0 ∷ pos 0 ∷ pos 0 ∷ pos 1 ∷ pos 10 ∷ pos 0 ∷ pos 6 ∷ pos 7 ∷ pos 1 ∷ pos 7 ∷ pos 7 ∷ pos 0 ∷ pos 0 ∷ pos 0 ∷ pos 0 ∷ pos 0 ∷ pos 0 ∷ pos 0 ∷ pos 7 ∷ pos 7 ∷ pos 1 ∷ pos 8 ∷ pos 7 ∷ pos 0 ∷ pos 0 ∷ pos 0 ∷ pos 0 ∷ [];
-        strings = [];
-        reports = [];
-      };
+      tokens = row 1 13 0 0 6 1 1 6 0 0 0 (pos 0) ∷ row 1 10 0 6 7 1 7 7 0 0 0 (pos 0) ∷ row 0 0 0 7 7 1 8 7 0 0 0 (pos 0) ∷ [];
+      strings = [];
+      reports = [];
     }
     ∷
     -- `2024-`, strict
@@ -182,11 +177,9 @@ cases =
       text = 50 ∷ 48 ∷ 50 ∷ 52 ∷ 45 ∷ [];
       mode = Strict;
       limit = maxBytesLiteralLength;
-      want = record {
-        records = pos 11 ∷ pos 0 ∷ pos 0 ∷ pos 0 ∷ pos 5 ∷ pos 1 ∷ pos 1 ∷ pos 0 ∷ pos 5 ∷ pos 0 ∷ pos 0 ∷ pos 0 ∷ pos 0 ∷ pos 0 ∷ pos 0 ∷ pos 5 ∷ pos 5 ∷ pos 1 ∷ pos 6 ∷ pos 5 ∷ pos 0 ∷ pos 0 ∷ pos 0 ∷ pos 0 ∷ [];
-        strings = [];
-        reports = [];
-      };
+      tokens = row 11 0 0 0 5 1 1 0 5 0 0 (pos 0) ∷ row 0 0 0 5 5 1 6 5 0 0 0 (pos 0) ∷ [];
+      strings = [];
+      reports = [];
     }
     ∷
     -- `-2024-`, strict
@@ -194,11 +187,9 @@ cases =
       text = 45 ∷ 50 ∷ 48 ∷ 50 ∷ 52 ∷ 45 ∷ [];
       mode = Strict;
       limit = maxBytesLiteralLength;
-      want = record {
-        records = pos 6 ∷ pos 0 ∷ pos 0 ∷ pos 0 ∷ pos 5 ∷ pos 1 ∷ pos 1 ∷ pos 0 ∷ pos 5 ∷ pos 0 ∷ pos 0 ∷ pos 0 ∷ pos 1 ∷ pos 17 ∷ pos 0 ∷ pos 5 ∷ pos 6 ∷ pos 1 ∷ pos 6 ∷ pos 6 ∷ pos 0 ∷ pos 0 ∷ pos 0 ∷ pos 0 ∷ pos 0 ∷ pos 0 ∷ pos 0 ∷ pos 6 ∷ pos 6 ∷ pos 1 ∷ pos 7 ∷ pos 6 ∷ pos 0 ∷ pos 0 ∷ pos 0 ∷ pos 0 ∷ [];
-        strings = [];
-        reports = [];
-      };
+      tokens = row 6 0 0 0 5 1 1 0 5 0 0 (pos 0) ∷ row 1 17 0 5 6 1 6 6 0 0 0 (pos 0) ∷ row 0 0 0 6 6 1 7 6 0 0 0 (pos 0) ∷ [];
+      strings = [];
+      reports = [];
     }
     ∷
     -- `12p3`, strict
@@ -206,11 +197,9 @@ cases =
       text = 49 ∷ 50 ∷ 112 ∷ 51 ∷ [];
       mode = Strict;
       limit = maxBytesLiteralLength;
-      want = record {
-        records = pos 6 ∷ pos 0 ∷ pos 0 ∷ pos 0 ∷ pos 4 ∷ pos 1 ∷ pos 1 ∷ pos 0 ∷ pos 2 ∷ pos 3 ∷ pos 1 ∷ pos 0 ∷ pos 0 ∷ pos 0 ∷ pos 0 ∷ pos 4 ∷ pos 4 ∷ pos 1 ∷ pos 5 ∷ pos 4 ∷ pos 0 ∷ pos 0 ∷ pos 0 ∷ pos 0 ∷ [];
-        strings = [];
-        reports = [];
-      };
+      tokens = row 6 0 0 0 4 1 1 0 2 3 1 (pos 0) ∷ row 0 0 0 4 4 1 5 4 0 0 0 (pos 0) ∷ [];
+      strings = [];
+      reports = [];
     }
     ∷
     -- `12p`, strict
@@ -218,11 +207,9 @@ cases =
       text = 49 ∷ 50 ∷ 112 ∷ [];
       mode = Strict;
       limit = maxBytesLiteralLength;
-      want = record {
-        records = pos 6 ∷ pos 0 ∷ pos 0 ∷ pos 0 ∷ pos 2 ∷ pos 1 ∷ pos 1 ∷ pos 0 ∷ pos 2 ∷ pos 0 ∷ pos 0 ∷ pos 0 ∷ pos 4 ∷ pos 0 ∷ pos 0 ∷ pos 2 ∷ pos 3 ∷ pos 1 ∷ pos 3 ∷ pos 2 ∷ pos 1 ∷ pos 0 ∷ pos 0 ∷ pos 0 ∷ pos 0 ∷ pos 0 ∷ pos 0 ∷ pos 3 ∷ pos 3 ∷ pos 1 ∷ pos 4 ∷ pos 3 ∷ pos 0 ∷ pos 0 ∷ pos 0 ∷ pos 0 ∷ [];
-        strings = [];
-        reports = [];
-      };
+      tokens = row 6 0 0 0 2 1 1 0 2 0 0 (pos 0) ∷ row 4 0 0 2 3 1 3 2 1 0 0 (pos 0) ∷ row 0 0 0 3 3 1 4 3 0 0 0 (pos 0) ∷ [];
+      strings = [];
+      reports = [];
     }
     ∷
     -- `5μs`, strict
@@ -230,15 +217,13 @@ cases =
       text = 53 ∷ 206 ∷ 188 ∷ 115 ∷ [];
       mode = Strict;
       limit = maxBytesLiteralLength;
-      want = record {
-        records = pos 6 ∷ pos 0 ∷ pos 0 ∷ pos 0 ∷ pos 1 ∷ pos 1 ∷ pos 1 ∷ pos 0 ∷ pos 1 ∷ pos 0 ∷ pos 0 ∷ pos 0 ∷ pos 1 ∷ pos 1 ∷ pos 956 ∷ pos 1 ∷ pos 3 ∷ pos 1 ∷ pos 2 ∷ pos 3 ∷ pos 0 ∷ pos 0 ∷ pos 0 ∷ pos 0 ∷ pos 4 ∷ pos 0 ∷ pos 0 ∷ pos 3 ∷ pos 4 ∷ pos 1 ∷ pos 4 ∷ pos 3 ∷ pos 1 ∷ pos 0 ∷ pos 0 ∷ pos 0 ∷ pos 0 ∷ pos 0 ∷ pos 0 ∷ pos 4 ∷ pos 4 ∷ pos 1 ∷ pos 5 ∷ pos 4 ∷ pos 0 ∷ pos 0 ∷ pos 0 ∷ pos 0 ∷ [];
-        strings = [];
-        reports = [];
-      };
+      tokens = row 6 0 0 0 1 1 1 0 1 0 0 (pos 0) ∷ row 1 1 956 1 3 1 2 3 0 0 0 (pos 0) ∷ row 4 0 0 3 4 1 4 3 1 0 0 (pos 0) ∷ row 0 0 0 4 4 1 5 4 0 0 0 (pos 0) ∷ [];
+      strings = [];
+      reports = [];
     }
     ∷
     []
 
 -- the lone theorem: every case is laid as the paper says
 abbrev pub AsThePaperSays : Type 0
-AsThePaperSays = map laid cases ≡ map (λ (c : Case). c .want) cases
+AsThePaperSays = map held cases ≡ map wanted cases

@@ -1,6 +1,7 @@
 // The checks of the text that every call makes first.
 ghost use mathlib.Core.Path.{_≡_};
-ghost use Rattle.reading.specs.Passes.{judgeOf};
+ghost use Rattle.reading.specs.Refusals.{judgeOf};
+use crate::refusal::Refusal;
 use limits::message_limit;
 use utf8::check::Verdict;
 use utf8::check::check;
@@ -8,10 +9,7 @@ use utf8::check::check;
 // Whether a text is one that is read.
 pub enum Judged {
     Fit,
-    // It exceeds 67,108,864 bytes.
-    TooLong,
-    // It isn't UTF-8; the offset of its first ill-formed sequence.
-    NotUtf8(usize),
+    Unfit(Refusal),
 }
 
 // Checks 1 and 2, in this order.
@@ -19,10 +17,10 @@ pub fn judge(text: &[u8]) -> Judged
     ensures { λ r. ⌜ r ≡ judgeOf (now (text .entry)) ⌝ }
 {
     if text.len() > message_limit() {
-        return Judged::TooLong;
+        return Judged::Unfit(Refusal::TooLong);
     }
     match check(text) {
         Verdict::WellFormed => Judged::Fit,
-        Verdict::IllFormed(at) => Judged::NotUtf8(at),
+        Verdict::IllFormed(at) => Judged::Unfit(Refusal::NotUtf8(at)),
     }
 }

@@ -3,4 +3,5 @@ pub mod judge;
 pub mod one;
 pub mod place;
 mod put;
+pub mod refusal;
 pub mod text;

@@ -7,17 +7,18 @@ ghost use Rattle.reading.specs.Answers.{isPlace, readTokenNumber};
 ghost use Rattle.reading.specs.Calls.{ReadsToken};
 use crate::judge::Judged;
 use crate::judge::judge;
+use crate::place::good_offset;
 use crate::put::put_notes;
 use crate::put::put_record;
 use crate::put::put_value;
-use lexeme::Mode;
+use crate::refusal::Refusal;
 use lexer::next::next_token;
 use lexer::next::string_size;
+use lexer::reading::Reading;
 use token::layout::RECORD_WIDTH;
 use token::layout::REPORT_WIDTH;
 use token::place::Place;
 use token::place::walk;
-use utf8::check::is_inside;
 
 // What reading one token answers.
 pub enum ReadToken {
@@ -27,13 +28,7 @@ pub enum ReadToken {
         reports: usize,
         end: Place,
     },
-    TooLong,
-    NotUtf8(usize),
-    // The place is none of the text.
-    NoPlace,
-    TokensShort,
-    StringsShort,
-    ReportsShort,
+    Refused(Refusal),
 }
 
 impl ReadToken {
@@ -47,12 +42,7 @@ impl ReadToken {
                 reports: _,
                 end: _,
             } => 0,
-            ReadToken::TooLong => 1,
-            ReadToken::NotUtf8(_) => 2,
-            ReadToken::NoPlace => 3,
-            ReadToken::TokensShort => 4,
-            ReadToken::StringsShort => 5,
-            ReadToken::ReportsShort => 6,
+            ReadToken::Refused(r) => r.number(),
         }
     }
 }
@@ -63,10 +53,7 @@ fn is_place(text: &[u8], place: Place) -> bool
     ensures { λ r. ⌜ r ≡ isPlace (now (text .entry)) place ⌝ }
 {
     let offset = place.offset;
-    if offset > text.len() {
-        return false;
-    }
-    if is_inside(text, offset) {
+    if !good_offset(text, offset) {
         return false;
     }
     let p = walk(text, Place::first(), offset);
@@ -80,7 +67,7 @@ fn is_place(text: &[u8], place: Place) -> bool
 pub fn read_token(
     text: &[u8],
     place: Place,
-    mode: Mode,
+    mode: Reading,
     limit: usize,
     tokens: &mut [i64],
     strings: &mut [u8],
@@ -89,25 +76,24 @@ pub fn read_token(
     ensures { λ r. ⌜ ReadsToken mode limit (now (text .entry)) place (now (tokens .entry)) (now (strings .entry)) (now (reports .entry)) r (now (tokens .exit)) (now (strings .exit)) (now (reports .exit)) ⌝ }
 {
     match judge(text) {
-        Judged::TooLong => return ReadToken::TooLong,
-        Judged::NotUtf8(at) => return ReadToken::NotUtf8(at),
+        Judged::Unfit(r) => return ReadToken::Refused(r),
         Judged::Fit => {}
     }
     if !is_place(text, place) {
-        return ReadToken::NoPlace;
+        return ReadToken::Refused(Refusal::NoPlace);
     }
     if tokens.len() < RECORD_WIDTH {
-        return ReadToken::TokensShort;
+        return ReadToken::Refused(Refusal::TokensShort);
     }
     let t = next_token(text, place, mode, limit);
     let kind = t.kind;
     let size = string_size(kind, t.size);
     if strings.len() < size {
-        return ReadToken::StringsShort;
+        return ReadToken::Refused(Refusal::StringsShort);
     }
     let count = t.reports;
     if reports.len() < count * REPORT_WIDTH {
-        return ReadToken::ReportsShort;
+        return ReadToken::Refused(Refusal::ReportsShort);
     }
     let end = t.end;
     put_record(t, 0, tokens, 0);

@@ -1,8 +1,10 @@
 // The place of an offset.
 ghost use mathlib.Core.Path.{_≡_};
 ghost use Rattle.reading.specs.Answers.{placeOfAnswer, placeOfNumber};
+ghost use Rattle.reading.specs.Refusals.{goodOffset};
 use crate::judge::Judged;
 use crate::judge::judge;
+use crate::refusal::Refusal;
 use token::place::Place;
 use token::place::walk;
 use utf8::check::is_inside;
@@ -10,10 +12,7 @@ use utf8::check::is_inside;
 // What the place of an offset answers.
 pub enum PlaceOf {
     At(Place),
-    TooLong,
-    NotUtf8(usize),
-    // The offset is beyond the text or inside a character.
-    NoPlace,
+    Refused(Refusal),
 }
 
 impl PlaceOf {
@@ -23,11 +22,19 @@ impl PlaceOf {
     {
         match self {
             PlaceOf::At(_) => 0,
-            PlaceOf::TooLong => 1,
-            PlaceOf::NotUtf8(_) => 2,
-            PlaceOf::NoPlace => 3,
+            PlaceOf::Refused(r) => r.number(),
         }
     }
+}
+
+// Whether an offset is neither beyond the text nor inside a character.
+pub fn good_offset(text: &[u8], offset: usize) -> bool
+    ensures { λ r. ⌜ r ≡ goodOffset (now (text .entry)) offset ⌝ }
+{
+    if offset > text.len() {
+        return false;
+    }
+    !is_inside(text, offset)
 }
 
 // The place of an offset of the text.
@@ -35,15 +42,11 @@ pub fn place_of(text: &[u8], offset: usize) -> PlaceOf
     ensures { λ r. ⌜ r ≡ placeOfAnswer (now (text .entry)) offset ⌝ }
 {
     match judge(text) {
-        Judged::TooLong => return PlaceOf::TooLong,
-        Judged::NotUtf8(at) => return PlaceOf::NotUtf8(at),
+        Judged::Unfit(r) => return PlaceOf::Refused(r),
         Judged::Fit => {}
     }
-    if offset > text.len() {
-        return PlaceOf::NoPlace;
-    }
-    if is_inside(text, offset) {
-        return PlaceOf::NoPlace;
+    if !good_offset(text, offset) {
+        return PlaceOf::Refused(Refusal::NoPlace);
     }
     PlaceOf::At(walk(text, Place::first(), offset))
 }

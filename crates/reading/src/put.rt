@@ -3,18 +3,17 @@ ghost use mathlib.Core.Path.{_≡_};
 ghost use lib.ListN.{length, drop};
 ghost use lib.Seq.{sets};
 ghost use Rattle.base.specs.Choice.{pick};
-ghost use Rattle.token.specs.Kind.{kindNumber};
+ghost use Rattle.token.specs.Kind.{kindNumber, isString};
 ghost use Rattle.token.specs.Layout.{recordNumbers};
 ghost use Rattle.lexeme.specs.Reports.{notesNumbers};
-ghost use Rattle.lexer.specs.Lexer.{stringOf, notesOf};
-ghost use Rattle.lexer.specs.Token.{isString};
+ghost use Rattle.lexer.specs.Reading.{stringIn, notesIn};
 ghost use Rattle.reading.specs.Buffers.{recordOf};
 ghost use Rattle.reading.specs.Passes.{RecordRoom, StringRoom, NotesRoom, TokenRoom, TokenPut};
-use lexeme::Mode;
 use lexer::next::Token;
 use lexer::next::string_size;
 use lexer::put::put_reports;
 use lexer::put::put_string;
+use lexer::reading::Reading;
 use token::layout::Record;
 use token::place::Place;
 
@@ -30,7 +29,8 @@ pub fn kind_number(t: Token) -> usize
 fn value_place(t: Token, at: usize) -> usize
     ensures { λ r. ⌜ r ≡ pick (isString (t .kind)) at (t .value) ⌝ }
 {
-    if kind_number(t) == 5 {
+    let kind = t.kind;
+    if kind.is_string() {
         return at;
     }
     t.value
@@ -61,9 +61,9 @@ pub fn put_record(t: Token, at: usize, out: &mut [i64], i: usize)
 }
 
 // Writes the string of a token of the text.
-pub fn put_value(text: &[u8], t: Token, mode: Mode, out: &mut [u8], at: usize)
+pub fn put_value(text: &[u8], t: Token, mode: Reading, out: &mut [u8], at: usize)
     requires { ⌜ StringRoom mode (now text) t (length (now out)) at ⌝ }
-    ensures { λ r. ⌜ now (out .exit) ≡ sets (now (out .entry)) at (stringOf mode (drop (t .start .offset) (now (text .entry)))) ⌝ }
+    ensures { λ r. ⌜ now (out .exit) ≡ sets (now (out .entry)) at (stringIn mode (drop (t .start .offset) (now (text .entry)))) ⌝ }
 {
     let kind = t.kind;
     let size = string_size(kind, t.size);
@@ -76,9 +76,9 @@ pub fn put_value(text: &[u8], t: Token, mode: Mode, out: &mut [u8], at: usize)
 }
 
 // Writes the reports of a token of the text.
-pub fn put_notes(text: &[u8], t: Token, mode: Mode, limit: usize, out: &mut [i64], at: usize)
+pub fn put_notes(text: &[u8], t: Token, mode: Reading, limit: usize, out: &mut [i64], at: usize)
     requires { ⌜ NotesRoom mode limit (now text) t (length (now out)) at ⌝ }
-    ensures { λ r. ⌜ now (out .exit) ≡ sets (now (out .entry)) at (notesNumbers (now (text .entry)) (t .start .offset) (notesOf mode limit (drop (t .start .offset) (now (text .entry))))) ⌝ }
+    ensures { λ r. ⌜ now (out .exit) ≡ sets (now (out .entry)) at (notesNumbers (now (text .entry)) (t .start .offset) (notesIn mode limit (drop (t .start .offset) (now (text .entry))))) ⌝ }
 {
     if t.reports == 0 {
         return;
@@ -90,7 +90,7 @@ pub fn put_notes(text: &[u8], t: Token, mode: Mode, limit: usize, out: &mut [i64
 pub fn put_token(
     text: &[u8],
     t: Token,
-    mode: Mode,
+    mode: Reading,
     limit: usize,
     tokens: &mut [i64],
     i: usize,

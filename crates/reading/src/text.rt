@@ -5,15 +5,18 @@ ghost use lib.ListN.{length};
 ghost use Rattle.limits.specs.Limits.{maxMessageSize};
 ghost use Rattle.utf8.specs.Grammar.{Octets};
 ghost use Rattle.reading.specs.Answers.{readTextNumber};
+ghost use Rattle.reading.specs.Buffers.{wholeLaid};
 ghost use Rattle.reading.specs.Calls.{ReadsText};
 ghost use Rattle.reading.specs.Passes.{Measured, Room, Written, mostReports, sufficeFor};
 use crate::judge::Judged;
 use crate::judge::judge;
 use crate::put::put_token;
+use crate::refusal::Refusal;
 use lexeme::Mode;
 use lexer::next::each_token;
 use lexer::next::next_lexeme;
 use lexer::next::string_size;
+use lexer::reading::Reading;
 use token::layout::RECORD_WIDTH;
 use token::layout::REPORT_WIDTH;
 use token::place::Place;
@@ -26,13 +29,7 @@ pub enum ReadText {
         strings: usize,
         reports: usize,
     },
-    // The text exceeds 67,108,864 bytes.
-    TooLong,
-    // The text isn't UTF-8; the offset of its first ill-formed sequence.
-    NotUtf8(usize),
-    TokensShort,
-    StringsShort,
-    ReportsShort,
+    Refused(Refusal),
 }
 
 impl ReadText {
@@ -46,11 +43,7 @@ impl ReadText {
                 strings: _,
                 reports: _,
             } => 0,
-            ReadText::TooLong => 1,
-            ReadText::NotUtf8(_) => 2,
-            ReadText::TokensShort => 4,
-            ReadText::StringsShort => 5,
-            ReadText::ReportsShort => 6,
+            ReadText::Refused(r) => r.number(),
         }
     }
 }
@@ -63,9 +56,9 @@ pub struct Counts {
 }
 
 // The first pass: it counts, and needs no places.
-fn measure(text: &[u8], mode: Mode, limit: usize) -> Counts
+fn measure(text: &[u8], mode: Reading, limit: usize) -> Counts
     requires { ⌜ (length (now text) ≤ maxMessageSize) × Octets (now text) ⌝ }
-    ensures { λ r. ⌜ Measured mode limit (now (text .entry)) r ⌝ }
+    ensures { λ r. ⌜ Measured (wholeLaid mode limit (now (text .entry))) r ⌝ }
 {
     let mut at = 0;
     let mut tokens = 0;
@@ -76,7 +69,7 @@ fn measure(text: &[u8], mode: Mode, limit: usize) -> Counts
         let x = found.lexeme;
         let kind = x.kind;
         tokens += 1;
-        if kind.number() == 0 {
+        if kind.is_eof() {
             return Counts {
                 tokens,
                 strings,
@@ -92,14 +85,14 @@ fn measure(text: &[u8], mode: Mode, limit: usize) -> Counts
 // The second pass: each token's record, string and reports, one after the other. It counts too.
 fn write(
     text: &[u8],
-    mode: Mode,
+    mode: Reading,
     limit: usize,
     tokens: &mut [i64],
     strings: &mut [u8],
     reports: &mut [i64],
 ) -> Counts
-    requires { ⌜ Room mode limit (now text) (length (now tokens)) (length (now strings)) (length (now reports)) × Octets (now text) ⌝ }
-    ensures { λ r. ⌜ Measured mode limit (now (text .entry)) r × Written mode limit (now (text .entry)) (now (tokens .entry)) (now (strings .entry)) (now (reports .entry)) (now (tokens .exit)) (now (strings .exit)) (now (reports .exit)) ⌝ }
+    requires { ⌜ (length (now text) ≤ maxMessageSize) × Room (wholeLaid mode limit (now text)) (length (now tokens)) (length (now strings)) (length (now reports)) × Octets (now text) ⌝ }
+    ensures { λ r. ⌜ Measured (wholeLaid mode limit (now (text .entry))) r × Written (wholeLaid mode limit (now (text .entry))) (now (tokens .entry)) (now (strings .entry)) (now (reports .entry)) (now (tokens .exit)) (now (strings .exit)) (now (reports .exit)) ⌝ }
 {
     let mut place = Place::first();
     let mut n = 0;
@@ -112,8 +105,7 @@ fn write(
         let j = k * REPORT_WIDTH;
         put_token(text, t, mode, limit, tokens, i, strings, m, reports, j);
         n += 1;
-        let number = kind.number();
-        if number == 0 {
+        if kind.is_eof() {
             return Counts {
                 tokens: n,
                 strings: m,
@@ -127,17 +119,17 @@ fn write(
 }
 
 // How many reports any text of so many bytes can have.
-fn most_reports(mode: Mode, len: usize) -> usize
+fn most_reports(mode: Reading, len: usize) -> usize
     ensures { λ r. ⌜ r ≡ mostReports mode len ⌝ }
 {
-    match mode {
+    match mode.mode() {
         Mode::Strict => 0,
         Mode::Tolerant => len,
     }
 }
 
 // Whether buffers suffice for any text of so many bytes.
-fn suffice(mode: Mode, len: usize, tokens: usize, strings: usize, reports: usize) -> bool
+fn suffice(mode: Reading, len: usize, tokens: usize, strings: usize, reports: usize) -> bool
     requires { ⌜ len ≤ maxMessageSize ⌝ }
     ensures { λ r. ⌜ r ≡ sufficeFor mode len tokens strings reports ⌝ }
 {
@@ -150,7 +142,7 @@ fn suffice(mode: Mode, len: usize, tokens: usize, strings: usize, reports: usize
 // buffers suffice in any case.
 pub fn read_text(
     text: &[u8],
-    mode: Mode,
+    mode: Reading,
     limit: usize,
     tokens: &mut [i64],
     strings: &mut [u8],
@@ -159,8 +151,7 @@ pub fn read_text(
     ensures { λ r. ⌜ ReadsText mode limit (now (text .entry)) (now (tokens .entry)) (now (strings .entry)) (now (reports .entry)) r (now (tokens .exit)) (now (strings .exit)) (now (reports .exit)) ⌝ }
 {
     match judge(text) {
-        Judged::TooLong => return ReadText::TooLong,
-        Judged::NotUtf8(at) => return ReadText::NotUtf8(at),
+        Judged::Unfit(r) => return ReadText::Refused(r),
         Judged::Fit => {}
     }
     if suffice(mode, text.len(), tokens.len(), strings.len(), reports.len()) {
@@ -176,13 +167,13 @@ pub fn read_text(
     let m = counts.strings;
     let k = counts.reports;
     if tokens.len() < n * RECORD_WIDTH {
-        return ReadText::TokensShort;
+        return ReadText::Refused(Refusal::TokensShort);
     }
     if strings.len() < m {
-        return ReadText::StringsShort;
+        return ReadText::Refused(Refusal::StringsShort);
     }
     if reports.len() < k * REPORT_WIDTH {
-        return ReadText::ReportsShort;
+        return ReadText::Refused(Refusal::ReportsShort);
     }
     write(text, mode, limit, tokens, strings, reports);
     ReadText::Counts {

@@ -13,6 +13,7 @@ use Rattle.base.specs.Runs.{reach}
 use Rattle.base.proofs.Reaches.{reach-le, reach-one, reach-fails}
 use Rattle.base.proofs.Tests.{and-left, and-right, pick-case, in-text}
 use Rattle.token.specs.Kind.{kindNumber}
+use Rattle.token.specs.Reason as reasons
 use Rattle.token.specs.declared.kind.TokenKind.the-variants as K
 use Rattle.lexeme.specs.Lexeme.{Note}
 use Rattle.lexeme.specs.declared.Mode.{Mode}
@@ -70,7 +71,7 @@ module _ (s : List ℕ) (h : 2 ≤ length s) where
 
   open-scanned : (m : Mode) → Scanned s (openComment m s)
   unfolding openComment
-  open-scanned Strict = illegal-scanned s (openEnd s) open-ends 2 0 (omega arith) (omega arith)
+  open-scanned Strict = illegal-scanned s (openEnd s) open-ends reasons.openBlockComment 0 (omega arith) (omega arith)
   open-scanned Tolerant =
       extent-scanned s (length s) (record { some = omega arith; inside = omega arith; between = end-boundary s }) K.Comment 0 (length s) 1 comment
       (omega arith) (omega arith)

@@ -7,7 +7,7 @@ use Rattle.base.specs.Runs as runs
 use Rattle.base.specs.Bytes.{sameBytes}
 use Rattle.base.specs.Classes.{isDigit, isLowerAlpha, isIdentStart, isIdentPart, isDurationUnit, isSpace}
 use Rattle.token.specs.declared.kind.TokenKind.the-variants as K
-use Rattle.lexeme.specs.Lexeme.{extent, whole, illegal, Note, noteAtStart}
+use Rattle.lexeme.specs.Lexeme.{extent, whole, illegal, precise, duration, Note, noteAtStart}
 use Rattle.lexeme.specs.declared.Lexeme.{Lexeme}
 use Rattle.lexeme.specs.declared.Mode.the-variants.{Strict, Tolerant}
 use Rattle.utf8.specs.Grammar.{utf8-char, charSize}
@@ -16,12 +16,12 @@ use Rattle.utf8.specs.Character.{codeBits, decodeOf}
 use Rattle.go_duration.specs.Fraction.{scaleOf, productOf, nanosOf, addDigit, readDigits, fracOf, fractionNanos}
 use Rattle.go_duration.specs.Units.{units, unitOf, valueFrom}
 use Rattle.go_duration.specs.Parse.{wholeEnd, hasPoint, fractionStart, fractionEnd, unitEnd, wholeOf, partUnit, partFraction, digitless, partOf, sumFrom, finish, unsigned, parseOf}
-use Rattle.go_duration.specs.declared.parse.Parsed.the-variants as parsed
 use Rattle.scan.specs.Run.{endsTimestamp, inRun, unitPiece}
 use Rattle.scan.specs.Comment.{lexLineComment, openEnd, bodyEnd, openComment, lexBlockComment, blockNotes}
 use Rattle.scan.specs.Name.{nameKind, lexIdent, directive, lexDirective}
 use Rattle.scan.specs.Bytes.{bytesStop, lexBytes, bytesNotes}
-use Rattle.scan.specs.Number.{precise, withPrecision, pastPoint, pastSign, pastExponent, pastFraction, atDurationUnit, durationBy, lexDuration, valueEnd, lexTail, lexDigits, atInf, lexNumber}
+use Rattle.scan.specs.Number.{lexPrecision, pastPoint, pastSign, pastExponent, pastFraction, atDurationUnit, lexDuration, valueEnd}
+use Rattle.scan.specs.Number.{lexTail, lexTimestamp, lexDigits, atInf, lexNumber}
 use Rattle.scan.specs.Other.{lexOther}
 
 -- a token and its reports
@@ -48,7 +48,7 @@ cases =
     -- P its rest
     ∷ (row (lexIdent (109 ∷ 115 ∷ [])) (whole K.Ident 2))
     -- P `1.5ms`
-    ∷ (row (lexNumber (49 ∷ 46 ∷ 53 ∷ 109 ∷ 115 ∷ [])) (durationBy (parsed.Nanos (pos 1500000)) 5))
+    ∷ (row (lexNumber (49 ∷ 46 ∷ 53 ∷ 109 ∷ 115 ∷ [])) (duration 5 (pos 1500000)))
     -- P `/* a` strict
     ∷ (told (lexBlockComment Strict (47 ∷ 42 ∷ 32 ∷ 97 ∷ [])) (blockNotes Strict (47 ∷ 42 ∷ 32 ∷ 97 ∷ [])) (illegal 2 0 3) [])
     -- P its rest
@@ -56,7 +56,7 @@ cases =
     -- P `/* a` tolerant
     ∷ (told (lexBlockComment Tolerant (47 ∷ 42 ∷ 32 ∷ 97 ∷ [])) (blockNotes Tolerant (47 ∷ 42 ∷ 32 ∷ 97 ∷ [])) (extent K.Comment 4 0 4 1) (noteAtStart 2 ∷ []))
     -- P `-9223372036854775808ns`
-    ∷ (row (lexNumber (45 ∷ 57 ∷ 50 ∷ 50 ∷ 51 ∷ 51 ∷ 55 ∷ 50 ∷ 48 ∷ 51 ∷ 54 ∷ 56 ∷ 53 ∷ 52 ∷ 55 ∷ 55 ∷ 53 ∷ 56 ∷ 48 ∷ 56 ∷ 110 ∷ 115 ∷ [])) (durationBy (parsed.Nanos (negsuc 9223372036854775807)) 22))
+    ∷ (row (lexNumber (45 ∷ 57 ∷ 50 ∷ 50 ∷ 51 ∷ 51 ∷ 55 ∷ 50 ∷ 48 ∷ 51 ∷ 54 ∷ 56 ∷ 53 ∷ 52 ∷ 55 ∷ 55 ∷ 53 ∷ 56 ∷ 48 ∷ 56 ∷ 110 ∷ 115 ∷ [])) (duration 22 (negsuc 9223372036854775807)))
     -- P without `-`
     ∷ (row (lexNumber (57 ∷ 50 ∷ 50 ∷ 51 ∷ 51 ∷ 55 ∷ 50 ∷ 48 ∷ 51 ∷ 54 ∷ 56 ∷ 53 ∷ 52 ∷ 55 ∷ 55 ∷ 53 ∷ 56 ∷ 48 ∷ 56 ∷ 110 ∷ 115 ∷ [])) (illegal 18 0 21))
     -- P written twice
@@ -86,7 +86,7 @@ cases =
     -- and the rest of that
     ∷ (row (lexIdent (115 ∷ [])) (whole K.Ident 1))
     -- `5µs` with U+00B5, and a blank
-    ∷ (row (lexNumber (53 ∷ 194 ∷ 181 ∷ 115 ∷ 32 ∷ [])) (durationBy (parsed.Nanos (pos 5000)) 4))
+    ∷ (row (lexNumber (53 ∷ 194 ∷ 181 ∷ 115 ∷ 32 ∷ [])) (duration 4 (pos 5000)))
     -- `5min`
     ∷ (row (lexNumber (53 ∷ 109 ∷ 105 ∷ 110 ∷ [])) (illegal 18 0 4))
     -- `1..2`
@@ -138,5 +138,5 @@ cases =
     ∷ []
 
 pub worked : map (λ (c : Case). c .found) cases ≡ map (λ (c : Case). c .want) cases
-unfolding sameBytes isDigit isLowerAlpha isIdentStart isIdentPart isDurationUnit isSpace runs.run runs.reach runs.walk runs.past utf8-char charSize isTail charEnd codeBits decodeOf scaleOf productOf nanosOf addDigit readDigits fracOf fractionNanos units unitOf valueFrom wholeEnd hasPoint fractionStart fractionEnd unitEnd wholeOf partUnit partFraction digitless partOf sumFrom finish unsigned parseOf mul div ofInt toUnsigned endsTimestamp inRun unitPiece lexLineComment openEnd bodyEnd openComment lexBlockComment blockNotes nameKind lexIdent directive lexDirective bytesStop lexBytes bytesNotes withPrecision pastPoint pastSign pastExponent pastFraction atDurationUnit lexDuration valueEnd lexTail lexDigits atInf lexNumber lexOther
+unfolding sameBytes isDigit isLowerAlpha isIdentStart isIdentPart isDurationUnit isSpace runs.run runs.reach runs.walk runs.past utf8-char charSize isTail charEnd codeBits decodeOf scaleOf productOf nanosOf addDigit readDigits fracOf fractionNanos units unitOf valueFrom wholeEnd hasPoint fractionStart fractionEnd unitEnd wholeOf partUnit partFraction digitless partOf sumFrom finish unsigned parseOf mul div ofInt toUnsigned endsTimestamp inRun unitPiece lexLineComment openEnd bodyEnd openComment lexBlockComment blockNotes nameKind lexIdent directive lexDirective bytesStop lexBytes bytesNotes lexPrecision pastPoint pastSign pastExponent pastFraction atDurationUnit lexDuration valueEnd lexTail lexTimestamp lexDigits atInf lexNumber lexOther
 worked = refl

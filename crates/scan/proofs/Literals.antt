@@ -1,7 +1,7 @@
 -- Bytes literals are within the text and end between characters; their reports stand at their start. By cases on where they stop. Assumes nothing.
 use mathlib.Core.Path.{_≡_, refl}
 use mathlib.Core.List.{List, List·Memᴰ, List·Memᴰ·not-nil, List·Memᴰ·eq-of-singleton}
-use Prim.Native.Nat.{ℕ, _+_, _-_, _≤_, _<_, zero-le}
+use Prim.Native.Nat.{ℕ, _+_, _≤_, _<_, zero-le}
 use native.Mathlib.Omega.{arith}
 use borrow.Author.Tests.{eqb-true, lt-ltb}
 use lib.Dec.{eqb}
@@ -10,6 +10,7 @@ use Rattle.base.specs.Choice.{pick}
 use Rattle.base.specs.Bytes.{byte}
 use Rattle.base.proofs.Tests.{pick-case}
 use Rattle.token.specs.Kind.{kindNumber}
+use Rattle.token.specs.Reason as reasons
 use Rattle.token.specs.declared.kind.TokenKind.the-variants as K
 use Rattle.lexeme.specs.Lexeme.{Note}
 use Rattle.lexeme.specs.declared.Mode.{Mode}
@@ -36,7 +37,7 @@ module _ (s : List ℕ) where
       (omega arith)
 
   open-scanned : (m : Mode) (n : ℕ) → Ends s (n + 2) → Scanned s (openBytes m n)
-  open-scanned Strict n e = illegal-scanned s (n + 2) e 14 0 (omega arith) (omega arith)
+  open-scanned Strict n e = illegal-scanned s (n + 2) e reasons.openBytes 0 (omega arith) (omega arith)
   open-scanned Tolerant n e = value-scanned (n + 2) n 1 (omega arith) (omega arith) e
 
   module _ (h : 2 ≤ length s) where
@@ -48,7 +49,7 @@ module _ (s : List ℕ) where
           inside = char-end-le s (n + 2) (omega arith);
           between = char-end-boundary s (n + 2) (omega arith);
         })
-        13 0 (omega arith) (omega arith)
+        reasons.bytesOverLimit 0 (omega arith) (omega arith)
     stop-scanned m (stop.Closed n) l =
         let one : n + 2 + 1 ≡ n + 3 = omega arith in
         let q = l .0 in

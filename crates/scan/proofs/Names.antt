@@ -13,6 +13,7 @@ use Rattle.base.proofs.Reaches.{reach-ge, reach-le, reach-one}
 use Rattle.base.proofs.Tests.{pick-case, in-text}
 use Rattle.token.specs.Kind.{kindNumber}
 use Rattle.token.specs.Place.{Flat}
+use Rattle.token.specs.Reason as reasons
 use Rattle.token.specs.declared.kind.TokenKind.the-variants as K
 use Rattle.utf8.proofs.Boundaries.{ascii-boundary}
 use Rattle.scan.specs.Run.{inRun}
@@ -75,7 +76,8 @@ directive-on-line s a =
     let f = flat-byte s (λ x. eqb x 64) refl 0 t (flat-none s) in
     pick-case (OnLine s) (eqb n 1)
     (λ e. record {
-      scanned = illegal-scanned s 1 (record { some = omega arith; inside = omega arith; between = b }) 15 0 (omega arith) (omega arith);
+      scanned =
+          illegal-scanned s 1 (record { some = omega arith; inside = omega arith; between = b }) reasons.atWithoutName 0 (omega arith) (omega arith);
       flat = f;
     })
     (λ e. named-on-line (take (n - 1) (drop 1 s)) s n

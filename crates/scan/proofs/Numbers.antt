@@ -7,7 +7,6 @@ use Prim.Native.Nat.{ℕ, _+_, _-_, _≤_, _<_, zero-le}
 use native.Mathlib.Omega.{arith}
 use borrow.Author.Tests.{eqb-true, not-false}
 use lib.Dec.{ltb, eqb}
-use lib.IntN.{ℤ, pos}
 use lib.ListN.{length, take}
 use lib.Seq.{getD-take, length-take-le}
 use Rattle.base.specs.Choice.{pick}
@@ -19,16 +18,18 @@ use Rattle.base.proofs.Walks.{past-ge}
 use Rattle.base.proofs.Tests.{and-left, and-right, or-case, pick-case, true-false, in-text, no-digit}
 use Rattle.token.specs.Kind.{kindNumber}
 use Rattle.token.specs.Place.{Flat}
+use Rattle.token.specs.Reason as reasons
 use Rattle.token.specs.declared.kind.TokenKind.the-variants as K
 use Rattle.token.specs.declared.kind.TokenKind.{TokenKind}
-use Rattle.lexeme.specs.Lexeme.{illegal}
-use Rattle.lexeme.proofs.Within.{Within}
+use Rattle.lexeme.specs.Lexeme.{illegal, precise}
+use Rattle.lexeme.proofs.Within.{precise-within, duration-within}
 use Rattle.go_duration.specs.Parse.{unsigned, parseOf}
 use Rattle.go_duration.specs.declared.parse.Parsed.the-variants as parsed
 use Rattle.go_duration.specs.declared.parse.Parsed.{Parsed}
 use Rattle.go_duration.proofs.Durations.{sent-digit, sent-minus}
 use Rattle.scan.specs.Run.{inRun, unitPiece}
-use Rattle.scan.specs.Number.{precise, withPrecision, pastFraction, atDurationUnit, durationBy, lexDuration, goesOnFloat, numberKind, valueEnd, lexTail, lexDigits, atInf, isSign, lexNumber}
+use Rattle.scan.specs.Number.{lexPrecision, pastFraction, atDurationUnit, durationBy, lexDuration, goesOnFloat, numberKind, valueEnd, lexTail}
+use Rattle.scan.specs.Number.{lexTimestamp, lexDigits, atInf, isSign, lexNumber}
 use Rattle.scan.specs.declared.run.Run.the-variants as run
 use Rattle.scan.proofs.Flats.{flat-none}
 use Rattle.scan.proofs.Runs.{oneByte, micro, micro-in, one-turn, micro-turn}
@@ -98,25 +99,10 @@ module _ (s : List ℕ) where
   ends-at : (e : ℕ) → 0 < e → Goes s 0 e → Ends s e
   ends-at e h g = record { some = h; inside = g .le zero-le; between = g .between }
 
-  number-within : (k : TokenKind) (n size precision digits : ℕ) (z : ℤ) → Ends s n → size ≤ n → precision + digits ≤ n
-      → Within s
-      (record
-      { kind = k; reason = 0; detail = 0; len = n; value = 0; size = size; precision = precision; digits = digits; nanos = z; reports = 0 })
-  number-within k n size precision digits z g i j =
-      record {
-        some = g .some;
-        ends = g .inside;
-        value-in = omega arith;
-        precision-in = j;
-        reports-in = omega arith;
-        reason-in = omega arith;
-        detail-in = λ _. omega arith;
-      }
-
   precise-scanned : (k : TokenKind) (e n : ℕ) → Plain k → e + 1 ≤ n → Ends s n → Scanned s (precise k e n)
   precise-scanned k e n p h g =
       record {
-        within = number-within k n e (e + 1) (n - (e + 1)) (pos 0) g (omega arith) (omega arith);
+        within = precise-within s k e n (omega arith) (g .inside);
         not-eof = p .not-eof;
         not-string = p .not-string;
         boundary = g .between;
@@ -124,8 +110,8 @@ module _ (s : List ℕ) where
       }
 
   -- a number that ends at e, before its precision
-  precision-on-line : (k : TokenKind) (e : ℕ) → Plain k → 0 < e → Goes s 0 e → OnLine s (withPrecision k s e)
-  unfolding withPrecision
+  precision-on-line : (k : TokenKind) (e : ℕ) → Plain k → 0 < e → Goes s 0 e → OnLine s (lexPrecision k s e)
+  unfolding lexPrecision
   precision-on-line k e p h g =
       let n = reach (inRun run.Digits) s (e + 1) in
       let l = reach-ge (inRun run.Digits) s (e + 1) in
@@ -159,13 +145,13 @@ module _ (s : List ℕ) where
     unfolding kindNumber
     duration-run (parsed.Nanos z) e g =
         record {
-          within = number-within K.Duration n n 0 0 z g (omega arith) (omega arith);
+          within = duration-within s n z (g .some) (g .inside);
           not-eof = λ q. absurd (omega (arith, ap kindNumber q));
           not-string = λ q. absurd (omega (arith, ap kindNumber q));
           boundary = g .between;
           duration = λ q. record { value = e; first = begun; no-plus = sent .0; not-zero = sent .1 };
         }
-    duration-run parsed.Bad e g = illegal-scanned s n g 18 0 (omega arith) (omega arith)
+    duration-run parsed.Bad e g = illegal-scanned s n g reasons.badDuration 0 (omega arith) (omega arith)
 
   duration-flat : (p : Parsed) (n : ℕ) → Flat s n → Flat s (durationBy p n .len)
   duration-flat (parsed.Nanos z) n f = f
@@ -186,6 +172,14 @@ module _ (s : List ℕ) where
       })
       (λ e. precision-on-line (numberKind x) (valueEnd s f x) (number-plain x) (omega (arith, begins-some b, v .ge)) (goes-then s g v))
 
+  -- a timestamp whose first digits end at n
+  timestamp-on-line : (n : ℕ) → 0 < n → Goes s 0 n → OnLine s (lexTimestamp s n)
+  unfolding lexTimestamp
+  timestamp-on-line n h g =
+      let t = goes-then s g (goes-stamp s n) in
+      let e = ends-at _ (omega (arith, reach-ge (inRun run.Stamp) s n)) t in
+      record { scanned = whole-scanned s _ e K.Timestamp stamp; flat = t .flat (flat-none s) }
+
   -- the digits from i on, where there is one
   digits-on-line : (i : ℕ) → Goes s 0 i → isDigit (byte s i) ≡ true → ((f : ℕ) → i < f → Begins s f) → OnLine s (lexDigits s i)
   unfolding lexDigits inRun
@@ -193,13 +187,9 @@ module _ (s : List ℕ) where
       let n = reach (inRun run.Digits) s i in
       let l = reach-one (inRun run.Digits) s i (in-text isDigit s i no-digit e) e in
       let g = goes-then s h (goes-digits s i) in
-      let t = goes-then s g (goes-stamp s n) in
       let f = goes-fraction s n in
       pick-case (OnLine s) ((eqb i 0 && eqb n 4) && eqb (byte s n) 45)
-      (λ q. record {
-        scanned = whole-scanned s _ (ends-at _ (omega (arith, reach-ge (inRun run.Stamp) s n)) t) K.Timestamp stamp;
-        flat = t .flat (flat-none s);
-      })
+      (λ q. timestamp-on-line n (omega arith) g)
       (λ q. tail-on-line n (pastFraction s n) (b (pastFraction s n) (omega (arith, f .ge))) (goes-then s g f))
 
   -- the byte at the front is a sign
@@ -220,7 +210,7 @@ module _ (s : List ℕ) where
         (goes-then s (goes-over s 110 (omega arith) (omega arith) 2 (and-right x y two))
         (goes-over s 102 (omega arith) (omega arith) 3 (and-right (x && y) z word))))
 
-    sign-on-line : (reason : ℕ) → reason ≤ 18 → OnLine s (illegal reason 0 1)
+    sign-on-line : (reason : ℕ) → reason ≤ reasons.last → OnLine s (illegal reason 0 1)
     sign-on-line reason h = record { scanned = illegal-scanned s 1 (ends-at 1 (omega arith) sign) reason 0 h (omega arith); flat = sign .flat (flat-none s) }
 
   -- the byte at the front is a sign or a digit
@@ -233,8 +223,9 @@ module _ (s : List ℕ) where
       pick-case (OnLine s) (isSign (byte s 0) && atInf s)
       (λ q. let g = inf-goes (and-left (isSign (byte s 0)) (atInf s) q) (and-right (isSign (byte s 0)) (atInf s) q) in
       record { scanned = whole-scanned s 4 (ends-at 4 (omega arith) g) K.Float float; flat = g .flat (flat-none s) })
-      (λ _. pick-case (OnLine s) p (λ q. sign-on-line (rw q) 16 (omega arith))
-      (λ q. pick-case (OnLine s) (m && not d) (λ r. sign-on-line (rw (q, and-left m (not d) r)) 17 (omega arith)) (λ r. go m refl q r)))
+      (λ _. pick-case (OnLine s) p (λ q. sign-on-line (rw q) reasons.plusWithoutInf (omega arith))
+      (λ q. pick-case (OnLine s) (m && not d) (λ r. sign-on-line (rw (q, and-left m (not d) r)) reasons.minusWithoutDigit (omega arith))
+      (λ r. go m refl q r)))
     where
       go : (x : Bool) → eqb (byte s 0) 45 ≡ x → eqb (byte s 0) 43 ≡ false → x && not (isDigit (byte s 1)) ≡ false → OnLine s (lexDigits s (pick x 1 0))
       go true t q r = digits-on-line 1 (sign (rw (q, t))) (not-false (isDigit (byte s 1)) r) (λ f h. minus (eqb-true (byte s 0) 45 t) h)

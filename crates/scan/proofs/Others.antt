@@ -3,6 +3,7 @@ use mathlib.Core.List.{List}
 use Prim.Native.Nat.{ℕ, _<_}
 use native.Mathlib.Omega.{arith}
 use lib.ListN.{length}
+use Rattle.token.specs.Reason as reasons
 use Rattle.utf8.specs.Check.{charEnd}
 use Rattle.utf8.specs.Character.{decodeOf}
 use Rattle.scan.specs.Other.{lexOther}
@@ -15,4 +16,4 @@ unfolding lexOther
 other-scanned s h =
     illegal-scanned s (charEnd s 1)
     (record { some = omega (arith, char-end-ge s 1); inside = char-end-le s 1 h; between = char-end-boundary s 1 h })
-    1 (decodeOf s .code) (omega arith) (code-small s)
+    reasons.unexpectedCharacter (decodeOf s .code) (omega arith) (code-small s)

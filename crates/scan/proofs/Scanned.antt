@@ -10,8 +10,9 @@ use lib.ListN.{length, take}
 use Rattle.base.specs.Bytes.{byte, sameBytes}
 use Rattle.base.specs.Classes.{isDigit}
 use Rattle.base.proofs.Tests.{true-false}
-use Rattle.token.specs.Kind.{kindNumber}
+use Rattle.token.specs.Kind.{kindNumber, isEof, isString, isDuration}
 use Rattle.token.specs.Place.{Flat}
+use Rattle.token.specs.Reason as reasons
 use Rattle.token.specs.declared.kind.TokenKind.the-variants as K
 use Rattle.token.specs.declared.kind.TokenKind.{TokenKind}
 use Rattle.lexeme.specs.Lexeme.{extent, whole, illegal}
@@ -27,12 +28,12 @@ pub record Plain (k : TokenKind) : Type 0 where
   pub not-string : k ≡ K.String → ⊥
   pub not-duration : k ≡ K.Duration → ⊥
 
-pub plain : (k : TokenKind) → (eqb (kindNumber k) 0 || eqb (kindNumber k) 5) || eqb (kindNumber k) 12 ≡ false → Plain k
+pub plain : (k : TokenKind) → (isEof k || isString k) || isDuration k ≡ false → Plain k
 unfolding kindNumber
 plain k e = record { not-eof = other K.Eof refl; not-string = other K.String refl; not-duration = other K.Duration refl }
   where
     test : TokenKind → Bool
-    test x = (eqb (kindNumber x) 0 || eqb (kindNumber x) 5) || eqb (kindNumber x) 12
+    test x = (isEof x || isString x) || isDuration x
 
     other : (x : TokenKind) → test x ≡ true → k ≡ x → ⊥
     other x t q = true-false (test x) t (ap test (sym q) ∙ e)
@@ -77,12 +78,12 @@ module _ (s : List ℕ) (n : ℕ) (e : Ends s n) where
   pub whole-scanned : (k : TokenKind) → Plain k → Scanned s (whole k n)
   whole-scanned k p = extent-scanned k 0 n 0 p (omega arith) (omega arith)
 
-  pub illegal-scanned : (reason detail : ℕ) → reason ≤ 18 → detail < 0x200000 → Scanned s (illegal reason detail n)
+  pub illegal-scanned : (reason detail : ℕ) → reason ≤ reasons.last → detail < 0x200000 → Scanned s (illegal reason detail n)
   unfolding kindNumber
   illegal-scanned reason detail i j =
       let p = plain K.Illegal refl in
       record {
-        within = illegal-within s reason detail n (e .some) (e .inside) i (λ _. j);
+        within = illegal-within s reason detail n 0 (e .some) (e .inside) (omega arith) i (λ _. j);
         not-eof = p .not-eof;
         not-string = p .not-string;
         boundary = e .between;

@@ -18,7 +18,8 @@ use Rattle.lexeme.specs.declared.Lexeme.{Lexeme}
 use Rattle.scan.specs.Run.{inRun, unitPiece}
 use Rattle.scan.specs.Comment.{lexLineComment}
 use Rattle.scan.specs.Name.{typeWord, datasetWord, protoWord, lexIdent, directive, lexDirective}
-use Rattle.scan.specs.Number.{withPrecision, pastFraction, atDurationUnit, durationBy, lexDuration, goesOnFloat, numberKind, valueEnd, lexTail, lexDigits, atInf, isSign, lexNumber}
+use Rattle.scan.specs.Number.{lexPrecision, pastFraction, atDurationUnit, durationBy, lexDuration, goesOnFloat, numberKind, valueEnd, lexTail}
+use Rattle.scan.specs.Number.{lexTimestamp, lexDigits, atInf, isSign, lexNumber}
 use Rattle.scan.specs.Other.{lexOther}
 use Rattle.scan.specs.declared.run.Run.the-variants as run
 
@@ -50,8 +51,8 @@ module _ (s : List ℕ) where
       let n = reach (inRun run.Name) s 1 in
       pick-case Silent (eqb n 1) (λ _. refl) (λ _. named-silent (take (n - 1) (drop 1 s)) n)
 
-  precision-silent : (k : TokenKind) (e : ℕ) → withPrecision k s e .reports ≡ 0
-  unfolding withPrecision
+  precision-silent : (k : TokenKind) (e : ℕ) → lexPrecision k s e .reports ≡ 0
+  unfolding lexPrecision
   precision-silent k e = pick-case Silent (eqb (byte s e) 112 && isDigit (byte s (e + 1))) (λ _. refl) (λ _. refl)
 
   duration-silent : (p : Parsed) (n : ℕ) → durationBy p n .reports ≡ 0
@@ -66,11 +67,15 @@ module _ (s : List ℕ) where
       (λ _. duration-silent (parseOf (take (past unitPiece s f) s)) (past unitPiece s f))
       (λ _. precision-silent (numberKind float) (valueEnd s f float))
 
+  timestamp-silent : (n : ℕ) → lexTimestamp s n .reports ≡ 0
+  unfolding lexTimestamp
+  timestamp-silent n = refl
+
   digits-silent : (i : ℕ) → lexDigits s i .reports ≡ 0
   unfolding lexDigits
   digits-silent i =
       let n = reach (inRun run.Digits) s i in
-      pick-case Silent ((eqb i 0 && eqb n 4) && eqb (byte s n) 45) (λ _. refl) (λ _. tail-silent n (pastFraction s n))
+      pick-case Silent ((eqb i 0 && eqb n 4) && eqb (byte s n) 45) (λ _. timestamp-silent n) (λ _. tail-silent n (pastFraction s n))
 
   pub number-silent : lexNumber s .reports ≡ 0
   unfolding lexNumber

@@ -5,6 +5,7 @@ use lib.Dec.{ltb, eqb}
 use lib.ListN.{drop}
 use Rattle.base.specs.Choice.{pick}
 use Rattle.utf8.specs.Check.{charEnd}
+use Rattle.token.specs.Reason as reasons
 use Rattle.token.specs.declared.kind.TokenKind.the-variants as K
 use Rattle.lexeme.specs.Lexeme.{extent, illegal, Note, noteAtStart}
 use Rattle.lexeme.specs.declared.Lexeme.{Lexeme}
@@ -24,35 +25,37 @@ bytesStop limit n (b ∷ s) =
 abbrev pub bytesValue : ℕ → ℕ → ℕ → Lexeme
 bytesValue len n reports = extent K.Bytes len (pick (eqb n 0) len 2) n reports
 
--- an open literal, n bytes between its quote and its end
+-- "14 open bytes literal", n bytes between its quote and its end; the tolerant reader takes them as the value and reports it
 abbrev pub openBytes : Mode → ℕ → Lexeme
-openBytes Strict n = illegal 14 0 (n + 2)
+openBytes Strict n = illegal reasons.openBytes 0 (n + 2)
 openBytes Tolerant n = bytesValue (n + 2) n 1
 
+-- the literal by where it stops: "13 bytes over limit", closed, or open
 abbrev pub bytesBy : Mode → List ℕ → Stop → Lexeme
-bytesBy m s (stop.Over n) = illegal 13 0 (charEnd s (n + 2))
+bytesBy m s (stop.Over n) = illegal reasons.bytesOverLimit 0 (charEnd s (n + 2))
 bytesBy m s (stop.Closed n) = bytesValue (n + 3) n 0
 bytesBy m s (stop.Newline n) = openBytes m n
 bytesBy m s (stop.Open n) = openBytes m n
 
--- the bytes literal at the front of s, which begins with `b"`
+-- `lex_bytes`: the literal at the front of s, which begins with `b"`
 unfoldable pub lexBytes : Mode → ℕ → List ℕ → Lexeme
 lexBytes m limit s = bytesBy m s (bytesStop limit 0 (drop 2 s))
 
--- what the tolerant reader reports of it, at its start: 20 where it ended at a newline, 14 where it is open
+-- what the tolerant reader reports of it, at its start: that it ended at a newline, or that it is open
 abbrev pub notesBy : Mode → Stop → List Note
 notesBy Strict e = []
 notesBy Tolerant (stop.Over n) = []
 notesBy Tolerant (stop.Closed n) = []
-notesBy Tolerant (stop.Newline n) = noteAtStart 20 ∷ []
-notesBy Tolerant (stop.Open n) = noteAtStart 14 ∷ []
+notesBy Tolerant (stop.Newline n) = noteAtStart reasons.bytesEndedAtNewline ∷ []
+notesBy Tolerant (stop.Open n) = noteAtStart reasons.openBytes ∷ []
 
+-- the reports of the literal at the front of s
 unfoldable pub bytesNotes : Mode → ℕ → List ℕ → List Note
 bytesNotes m limit s = notesBy m (bytesStop limit 0 (drop 2 s))
 
--- the reason of that report, or 0 where there is none
+-- the reason of that report, where there is one
 unfoldable pub stopReason : Stop → ℕ
-stopReason (stop.Over n) = 0
-stopReason (stop.Closed n) = 0
-stopReason (stop.Newline n) = 20
-stopReason (stop.Open n) = 14
+stopReason (stop.Over n) = reasons.none
+stopReason (stop.Closed n) = reasons.none
+stopReason (stop.Newline n) = reasons.bytesEndedAtNewline
+stopReason (stop.Open n) = reasons.openBytes

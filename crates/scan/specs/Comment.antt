@@ -6,6 +6,7 @@ use lib.ListN.{length}
 use Rattle.base.specs.Choice.{pick}
 use Rattle.base.specs.Runs.{reach}
 use Rattle.utf8.specs.Check.{charEnd}
+use Rattle.token.specs.Reason as reasons
 use Rattle.token.specs.declared.kind.TokenKind.the-variants as K
 use Rattle.lexeme.specs.Lexeme.{whole, extent, illegal, Note, noteAtStart}
 use Rattle.lexeme.specs.declared.Lexeme.{Lexeme}
@@ -14,7 +15,7 @@ use Rattle.lexeme.specs.declared.Mode.the-variants.{Strict, Tolerant}
 use Rattle.scan.specs.Run.{inRun}
 use Rattle.scan.specs.declared.run.Run.the-variants as run
 
--- `#` or `//` to the end of the line
+-- `lex_line_comment`: `#` or `//` to the end of the line
 unfoldable pub lexLineComment : List ℕ → Lexeme
 lexLineComment s = whole K.Comment (reach (inRun run.Line) s 0)
 
@@ -26,18 +27,20 @@ openEnd s = charEnd s (pick (leb 3 (length s)) (length s - 1) 2)
 unfoldable pub bodyEnd : List ℕ → ℕ
 bodyEnd s = reach (inRun run.Body) s 2
 
--- an open comment is reason 2; the tolerant reader takes all that is left and reports it
+-- "2 open block comment"; the tolerant reader takes all that is left and reports it
 unfoldable pub openComment : Mode → List ℕ → Lexeme
-openComment Strict s = illegal 2 0 (openEnd s)
+openComment Strict s = illegal reasons.openBlockComment 0 (openEnd s)
 openComment Tolerant s = extent K.Comment (length s) 0 (length s) 1
 
+-- `lex_block_comment`: through `*/`, or open
 unfoldable pub lexBlockComment : Mode → List ℕ → Lexeme
 lexBlockComment m s = pick (ltb (bodyEnd s) (length s)) (whole K.Comment (bodyEnd s + 2)) (openComment m s)
 
 -- the report of an open comment, at its start
 abbrev pub openNotes : Mode → List Note
 openNotes Strict = []
-openNotes Tolerant = noteAtStart 2 ∷ []
+openNotes Tolerant = noteAtStart reasons.openBlockComment ∷ []
 
+-- the reports of the comment at the front of s
 unfoldable pub blockNotes : Mode → List ℕ → List Note
 blockNotes m s = pick (ltb (bodyEnd s) (length s)) [] (openNotes m)

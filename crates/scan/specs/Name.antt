@@ -1,5 +1,5 @@
 -- Names and directives: `lex_ident` and `lex_directive`.
-use mathlib.Core.Bool.{Bool, _||_}
+use mathlib.Core.Bool.{_||_}
 use mathlib.Core.List.{List, [], _∷_}
 use Prim.Native.Nat.{ℕ, _-_}
 use lib.Dec.{eqb}
@@ -7,6 +7,7 @@ use lib.ListN.{take, drop}
 use Rattle.base.specs.Choice.{pick}
 use Rattle.base.specs.Bytes.{sameBytes}
 use Rattle.base.specs.Runs.{reach}
+use Rattle.token.specs.Reason as reasons
 use Rattle.token.specs.declared.kind.TokenKind.{TokenKind}
 use Rattle.token.specs.declared.kind.TokenKind.the-variants as K
 use Rattle.lexeme.specs.Lexeme.{whole, extent, illegal}
@@ -38,6 +39,7 @@ protoWord = 112 ∷ 114 ∷ 111 ∷ 116 ∷ 111 ∷ []
 unfoldable pub nameKind : List ℕ → TokenKind
 nameKind w = pick (sameBytes w trueWord || sameBytes w falseWord) K.Bool (pick (sameBytes w nullWord) K.Null K.Ident)
 
+-- `lex_ident`: the run of a name's bytes
 unfoldable pub lexIdent : List ℕ → Lexeme
 lexIdent s = whole (nameKind (take (reach (inRun run.Name) s 0) s)) (reach (inRun run.Name) s 0)
 
@@ -48,8 +50,8 @@ directive w n =
     (pick (sameBytes w datasetWord) (whole K.AtDataset n)
     (pick (sameBytes w protoWord) (whole K.AtProto n) (extent K.AtDirective n 1 (n - 1) 0)))
 
--- `@` without a name is reason 15
+-- `lex_directive`: "15 `@` without name", or the directive of the name
 unfoldable pub lexDirective : List ℕ → Lexeme
 lexDirective s =
     let n = reach (inRun run.Name) s 1 in
-    pick (eqb n 1) (illegal 15 0 1) (directive (take (n - 1) (drop 1 s)) n)
+    pick (eqb n 1) (illegal reasons.atWithoutName 0 1) (directive (take (n - 1) (drop 1 s)) n)

@@ -1,9 +1,8 @@
 -- Numbers, timestamps and durations: `lex_number` and what it calls.
 use mathlib.Core.Bool.{Bool, not, _&&_, _||_}
 use mathlib.Core.List.{List}
-use Prim.Native.Nat.{ℕ, _+_, _-_}
+use Prim.Native.Nat.{ℕ, _+_}
 use lib.Dec.{ltb, eqb}
-use lib.IntN.{pos}
 use lib.ListN.{take}
 use Rattle.base.specs.Choice.{pick}
 use Rattle.base.specs.Bytes.{byte}
@@ -12,21 +11,17 @@ use Rattle.base.specs.Runs.{reach, past}
 use Rattle.go_duration.specs.Parse.{parseOf}
 use Rattle.go_duration.specs.declared.parse.Parsed.{Parsed}
 use Rattle.go_duration.specs.declared.parse.Parsed.the-variants as parsed
+use Rattle.token.specs.Reason as reasons
 use Rattle.token.specs.declared.kind.TokenKind.{TokenKind}
 use Rattle.token.specs.declared.kind.TokenKind.the-variants as K
-use Rattle.lexeme.specs.Lexeme.{whole, illegal}
+use Rattle.lexeme.specs.Lexeme.{whole, illegal, precise, duration}
 use Rattle.lexeme.specs.declared.Lexeme.{Lexeme}
 use Rattle.scan.specs.Run.{inRun, unitPiece}
 use Rattle.scan.specs.declared.run.Run.the-variants as run
 
--- a number that ends at e, with its precision: the digits after `p`
-abbrev pub precise : TokenKind → ℕ → ℕ → Lexeme
-precise k e n =
-    record { kind = k; reason = 0; detail = 0; len = n; value = 0; size = e; precision = e + 1; digits = n - (e + 1); nanos = pos 0; reports = 0 }
-
--- `lex_precision`: `p` and one or more digits, or nothing
-unfoldable pub withPrecision : TokenKind → List ℕ → ℕ → Lexeme
-withPrecision k s e =
+-- `lex_precision`: a number that ends at e; its precision is `p` and one or more digits, or nothing
+unfoldable pub lexPrecision : TokenKind → List ℕ → ℕ → Lexeme
+lexPrecision k s e =
     pick (eqb (byte s e) 112 && isDigit (byte s (e + 1))) (precise k e (reach (inRun run.Digits) s (e + 1))) (whole k e)
 
 -- past a point and digits or none
@@ -49,11 +44,10 @@ pastFraction s i = pick (eqb (byte s i) 46 && isDigit (byte s (i + 1))) (reach (
 unfoldable pub atDurationUnit : ℕ → ℕ → Bool
 atDurationUnit a b = isDurationUnit a || (eqb a 0xC2 && eqb b 0xB5)
 
--- a duration of n bytes, as `go_duration::parse` judges it; a bad one is reason 18
+-- a duration of n bytes where `go_duration::parse` accepts it, else "18 bad duration"
 abbrev pub durationBy : Parsed → ℕ → Lexeme
-durationBy (parsed.Nanos z) n =
-    record { kind = K.Duration; reason = 0; detail = 0; len = n; value = 0; size = n; precision = 0; digits = 0; nanos = z; reports = 0 }
-durationBy parsed.Bad n = illegal 18 0 n
+durationBy (parsed.Nanos z) n = duration n z
+durationBy parsed.Bad n = illegal reasons.badDuration 0 n
 
 -- `lex_duration`, the units from f on
 unfoldable pub lexDuration : List ℕ → ℕ → Lexeme
@@ -75,13 +69,17 @@ valueEnd s f float = pick float (pastExponent s (pastPoint s f)) f
 unfoldable pub lexTail : List ℕ → ℕ → ℕ → Lexeme
 lexTail s n f =
     let float = ltb n f || goesOnFloat (byte s f) in
-    pick (atDurationUnit (byte s f) (byte s (f + 1))) (lexDuration s f) (withPrecision (numberKind float) s (valueEnd s f float))
+    pick (atDurationUnit (byte s f) (byte s (f + 1))) (lexDuration s f) (lexPrecision (numberKind float) s (valueEnd s f float))
+
+-- `lex_timestamp`, the first digits ending at n; document 01: "Contents of Timestamp and Bytes aren't judged", so it is all of its run
+unfoldable pub lexTimestamp : List ℕ → ℕ → Lexeme
+lexTimestamp s n = whole K.Timestamp (reach (inRun run.Stamp) s n)
 
 -- the digits from i on, and what follows them; document 01: "An unsigned run of exactly four digits before `-` starts a timestamp run"
 unfoldable pub lexDigits : List ℕ → ℕ → Lexeme
 lexDigits s i =
     let n = reach (inRun run.Digits) s i in
-    pick ((eqb i 0 && eqb n 4) && eqb (byte s n) 45) (whole K.Timestamp (reach (inRun run.Stamp) s n)) (lexTail s n (pastFraction s n))
+    pick ((eqb i 0 && eqb n 4) && eqb (byte s n) 45) (lexTimestamp s n) (lexTail s n (pastFraction s n))
 
 -- `inf` after a sign, where no name byte follows
 unfoldable pub atInf : List ℕ → Bool
@@ -91,9 +89,9 @@ atInf s = ((eqb (byte s 1) 105 && eqb (byte s 2) 110) && eqb (byte s 3) 102) && 
 abbrev pub isSign : ℕ → Bool
 isSign a = eqb a 43 || eqb a 45
 
--- `lex_number`: `+` without `inf` is reason 16, `-` without digit or `inf` is reason 17
+-- `lex_number`: "16 `+` without `inf`; 17 `-` without digit or `inf`"
 unfoldable pub lexNumber : List ℕ → Lexeme
 lexNumber s =
     pick (isSign (byte s 0) && atInf s) (whole K.Float 4)
-    (pick (eqb (byte s 0) 43) (illegal 16 0 1)
-    (pick (eqb (byte s 0) 45 && not (isDigit (byte s 1))) (illegal 17 0 1) (lexDigits s (pick (eqb (byte s 0) 45) 1 0))))
+    (pick (eqb (byte s 0) 43) (illegal reasons.plusWithoutInf 0 1)
+    (pick (eqb (byte s 0) 45 && not (isDigit (byte s 1))) (illegal reasons.minusWithoutDigit 0 1) (lexDigits s (pick (eqb (byte s 0) 45) 1 0))))

@@ -3,9 +3,10 @@ use mathlib.Core.List.{List}
 use Prim.Native.Nat.{ℕ}
 use Rattle.utf8.specs.Character.{decodeOf}
 use Rattle.utf8.specs.Check.{charEnd}
+use Rattle.token.specs.Reason as reasons
 use Rattle.lexeme.specs.Lexeme.{illegal}
 use Rattle.lexeme.specs.declared.Lexeme.{Lexeme}
 
--- reason 1: "unexpected character (detail: its code point)"
+-- "1 unexpected character (detail: its code point)"
 unfoldable pub lexOther : List ℕ → Lexeme
-lexOther s = illegal 1 (decodeOf s .code) (charEnd s 1)
+lexOther s = illegal reasons.unexpectedCharacter (decodeOf s .code) (charEnd s 1)

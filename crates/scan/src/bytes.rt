@@ -6,6 +6,7 @@ ghost use Rattle.scan.specs.Bytes.{bytesStop, bytesValue, openBytes, lex
 use lexeme::Lexeme;
 use lexeme::Mode;
 use token::kind::TokenKind;
+use token::reason;
 use utf8::check::char_end;
 
 // Where a bytes literal stops, so many bytes after its opening quote.
@@ -60,7 +61,7 @@ fn open_bytes(mode: Mode, n: usize) -> Lexeme
     ensures { λ r. ⌜ r ≡ openBytes mode n ⌝ }
 {
     match mode {
-        Mode::Strict => lexeme::illegal(14, 0, n + 2),
+        Mode::Strict => lexeme::illegal(reason::OPEN_BYTES, 0, n + 2),
         Mode::Tolerant => bytes_value(n + 2, n, 1),
     }
 }
@@ -70,22 +71,22 @@ pub fn lex_bytes(s: &[u8], mode: Mode, limit: usize) -> Lexeme
     ensures { λ r. ⌜ r ≡ lexBytes mode limit (now (s .entry)) ⌝ }
 {
     match bytes_stop(s, limit) {
-        Stop::Over(n) => lexeme::illegal(13, 0, char_end(s, n + 2)),
+        Stop::Over(n) => lexeme::illegal(reason::BYTES_OVER_LIMIT, 0, char_end(s, n + 2)),
         Stop::Closed(n) => bytes_value(n + 3, n, 0),
         Stop::Newline(n) => open_bytes(mode, n),
         Stop::Open(n) => open_bytes(mode, n),
     }
 }
 
-// The reason of the report that the tolerant reader makes of the literal at the front of `s`, or 0.
+// The reason of the report that the tolerant reader makes of the literal at the front of `s`, or none.
 pub fn bytes_reason(s: &[u8], limit: usize) -> usize
     ensures { λ r. ⌜ r ≡ stopReason (bytesStop limit 0 (drop 2 (now (s .entry)))) ⌝ }
 {
     let stop = bytes_stop(s, limit);
     match stop {
-        Stop::Over(_) => 0,
-        Stop::Closed(_) => 0,
-        Stop::Newline(_) => 20,
-        Stop::Open(_) => 14,
+        Stop::Over(_) => reason::NONE,
+        Stop::Closed(_) => reason::NONE,
+        Stop::Newline(_) => reason::BYTES_ENDED_AT_NEWLINE,
+        Stop::Open(_) => reason::OPEN_BYTES,
     }
 }

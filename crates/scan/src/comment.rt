@@ -6,6 +6,7 @@ use crate::run::reach_long;
 use lexeme::Lexeme;
 use lexeme::Mode;
 use token::kind::TokenKind;
+use token::reason;
 use utf8::check::char_end;
 
 // A comment that begins with `#` or `//`.
@@ -30,7 +31,7 @@ fn open_comment(s: &[u8], mode: Mode) -> Lexeme
     ensures { λ r. ⌜ r ≡ openComment mode (now (s .entry)) ⌝ }
 {
     match mode {
-        Mode::Strict => lexeme::illegal(2, 0, open_end(s)),
+        Mode::Strict => lexeme::illegal(reason::OPEN_BLOCK_COMMENT, 0, open_end(s)),
         Mode::Tolerant => lexeme::extent(TokenKind::Comment, s.len(), 0, s.len(), 1),
     }
 }

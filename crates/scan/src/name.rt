@@ -8,6 +8,7 @@ use crate::run::Run;
 use crate::run::reach_run;
 use lexeme::Lexeme;
 use token::kind::TokenKind;
+use token::reason;
 
 // Whether a name is a word.
 fn is_word(name: &[u8], word: &[u8]) -> bool
@@ -61,7 +62,7 @@ pub fn lex_directive(s: &[u8]) -> Lexeme
 {
     let n = reach_run(Run::Name, s, 1);
     if n == 1 {
-        return lexeme::illegal(15, 0, 1);
+        return lexeme::illegal(reason::AT_WITHOUT_NAME, 0, 1);
     }
     directive(&s[1..n], n)
 }

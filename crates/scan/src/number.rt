@@ -2,7 +2,8 @@
 ghost use mathlib.Core.Path.{_≡_};
 ghost use Prim.Native.Nat.{_+_, _≤_};
 ghost use lib.ListN.{length};
-ghost use Rattle.scan.specs.Number.{withPrecision, pastPoint, pastSign, pastExponent, pastFraction, atDurationUnit, lexDuration, goesOnFloat, numberKind, valueEnd, lexTail, lexDigits, atInf, lexNumber};
+ghost use Rattle.scan.specs.Number.{lexPrecision, pastPoint, pastSign, pastExponent, pastFraction, atDurationUnit, lexDuration};
+ghost use Rattle.scan.specs.Number.{goesOnFloat, numberKind, valueEnd, lexTail, lexTimestamp, lexDigits, atInf, lexNumber};
 use crate::run::Run;
 use crate::run::past_units;
 use crate::run::reach_run;
@@ -14,28 +15,15 @@ use go_duration::parse::Parsed;
 use go_duration::parse::parse;
 use lexeme::Lexeme;
 use token::kind::TokenKind;
+use token::reason;
 
-// `lex_precision`: a number that ends at `end`, with the precision that follows it.
-fn with_precision(kind: TokenKind, s: &[u8], end: usize) -> Lexeme
+// A number that ends at `end`, with the precision that follows it or none.
+fn lex_precision(kind: TokenKind, s: &[u8], end: usize) -> Lexeme
     requires { ⌜ end ≤ length (now s) ⌝ }
-    ensures { λ r. ⌜ r ≡ withPrecision kind (now (s .entry)) end ⌝ }
+    ensures { λ r. ⌜ r ≡ lexPrecision kind (now (s .entry)) end ⌝ }
 {
     if (peek(s, end) == b'p') & is_digit(peek(s, end + 1)) {
-        let precision = end + 1;
-        let len = reach_run(Run::Digits, s, precision);
-        let digits = len - precision;
-        return Lexeme {
-            kind,
-            reason: 0,
-            detail: 0,
-            len,
-            value: 0,
-            size: end,
-            precision,
-            digits,
-            nanos: 0,
-            reports: 0,
-        };
+        return lexeme::precise(kind, end, reach_run(Run::Digits, s, end + 1));
     }
     lexeme::whole(kind, end)
 }
@@ -100,19 +88,8 @@ fn lex_duration(s: &[u8], f: usize) -> Lexeme
 {
     let len = past_units(s, f);
     match parse(&s[..len]) {
-        Parsed::Nanos(nanos) => Lexeme {
-            kind: TokenKind::Duration,
-            reason: 0,
-            detail: 0,
-            len,
-            value: 0,
-            size: len,
-            precision: 0,
-            digits: 0,
-            nanos,
-            reports: 0,
-        },
-        Parsed::Bad => lexeme::illegal(18, 0, len),
+        Parsed::Nanos(nanos) => lexeme::duration(len, nanos),
+        Parsed::Bad => lexeme::illegal(reason::BAD_DURATION, 0, len),
     }
 }
 
@@ -154,7 +131,14 @@ fn lex_tail(s: &[u8], n: usize, f: usize) -> Lexeme
         return lex_duration(s, f);
     }
     let float = (n < f) | goes_on_float(b);
-    with_precision(number_kind(float), s, value_end(s, f, float))
+    lex_precision(number_kind(float), s, value_end(s, f, float))
+}
+
+// A timestamp whose first digits end at `n`.
+fn lex_timestamp(s: &[u8], n: usize) -> Lexeme
+    ensures { λ r. ⌜ r ≡ lexTimestamp (now (s .entry)) n ⌝ }
+{
+    lexeme::whole(TokenKind::Timestamp, reach_run(Run::Stamp, s, n))
 }
 
 // The digits from `at` on, and what follows them; four unsigned digits before `-` start a timestamp.
@@ -164,7 +148,7 @@ fn lex_digits(s: &[u8], at: usize) -> Lexeme
 {
     let n = reach_run(Run::Digits, s, at);
     if (at == 0) & (n == 4) & (peek(s, n) == b'-') {
-        return lexeme::whole(TokenKind::Timestamp, reach_run(Run::Stamp, s, n));
+        return lex_timestamp(s, n);
     }
     lex_tail(s, n, past_fraction(s, n))
 }
@@ -188,10 +172,10 @@ pub fn lex_number(s: &[u8]) -> Lexeme
             return lexeme::whole(TokenKind::Float, 4);
         }
         if a == b'+' {
-            return lexeme::illegal(16, 0, 1);
+            return lexeme::illegal(reason::PLUS_WITHOUT_INF, 0, 1);
         }
         if !is_digit(peek(s, 1)) {
-            return lexeme::illegal(17, 0, 1);
+            return lexeme::illegal(reason::MINUS_WITHOUT_DIGIT, 0, 1);
         }
     }
     lex_digits(s, sign as usize)

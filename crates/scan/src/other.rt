@@ -2,6 +2,7 @@
 ghost use mathlib.Core.Path.{_≡_};
 ghost use Rattle.scan.specs.Other.{lexOther};
 use lexeme::Lexeme;
+use token::reason;
 use utf8::character::decode;
 use utf8::check::char_end;
 
@@ -11,5 +12,5 @@ pub fn lex_other(s: &[u8]) -> Lexeme
 {
     let found = decode(s);
     let code = found.code;
-    lexeme::illegal(1, code as usize, char_end(s, 1))
+    lexeme::illegal(reason::UNEXPECTED_CHARACTER, code as usize, char_end(s, 1))
 }

@@ -6,6 +6,7 @@ use Prim.Native.Nat.{ℕ, _+_, _-_, _≤_, _<_}
 use native.Mathlib.Omega.{arith}
 use lib.Dec.{lit≤}
 use lib.ListN.{length, take, drop, length-append, length-drop}
+use Rattle.token.specs.Reason as reasons
 use Rattle.lexeme.specs.declared.Mode.{Mode}
 use Rattle.lexeme.specs.declared.Mode.the-variants.{Strict, Tolerant}
 use Rattle.strings.specs.Decode.{Decoded, letterDetail, stepNotes, prepend, finish}
@@ -21,9 +22,9 @@ pub record Bounds (s : List ℕ) (i : ℕ) (d : Decoded) : Type 0 where
   pub bytes-in : i + length (d .bytes) ≤ d .stop
   pub notes-in : i + length (d .notes) ≤ d .stop
   pub upto : d .stop ≤ length s
-  pub reason : endReason (d .ending) ≤ 10
+  pub reason : endReason (d .ending) ≤ reasons.openString
 
-reason-le : (m : Mode) (l : List ℕ) (e : End) → Named m l e → endReason e ≤ 10
+reason-le : (m : Mode) (l : List ℕ) (e : End) → Named m l e → endReason e ≤ reasons.openString
 unfolding endReason
 reason-le m l end.Closed n = lit≤ tt
 reason-le m l end.AtNewline n = lit≤ tt
@@ -71,7 +72,7 @@ named-sound s l end.Open n = record { detail = refl; stays = λ x. refl }
 named-sound s l (end.Bad reason letter) n = absurd n
 
 -- a strict ending without a reason is none either
-pub zero-sound : (s : List ℕ) (e : End) → endReason e ≡ 0 → Sound s e
+pub zero-sound : (s : List ℕ) (e : End) → endReason e ≡ reasons.none → Sound s e
 unfolding endReason endDetail endOf letterDetail
 zero-sound s end.Closed z = record { detail = refl; stays = λ x. refl }
 zero-sound s end.AtNewline z = record { detail = refl; stays = λ x. refl }

@@ -16,6 +16,7 @@ use Rattle.base.specs.Runs.{reach}
 use Rattle.base.specs.Blocks.{allPass}
 use Rattle.base.proofs.Reaches.{reach-le, reach-ge, reach-all}
 use Rattle.base.proofs.Tests.{and-left, and-right, true-false}
+use Rattle.token.specs.Reason as reasons
 use Rattle.lexeme.specs.declared.Mode.{Mode}
 use Rattle.lexeme.specs.declared.Mode.the-variants.{Strict, Tolerant}
 use Rattle.strings.specs.Piece.{simpleOf, escapePiece, pieceOf}
@@ -33,8 +34,8 @@ use Rattle.strings.proofs.Fine.{Fine, Taken, Front, fine}
 -- a step that goes on, at the front of l
 pub record Went (l : List ℕ) (n b used reason : ℕ) : Type 0 where
   pub taken : Taken n used (length l)
-  pub small : reason ≤ 9
-  pub named : (reason ≡ 0 → ⊥) → b ≡ byte l 1
+  pub small : reason ≤ reasons.unknownEscape
+  pub named : (reason ≡ reasons.none → ⊥) → b ≡ byte l 1
 
 -- the first k bytes of l end where a character can: at the end of l, after an ASCII byte or before one
 pub data Clean (l : List ℕ) (k : ℕ) : Type 0 where
@@ -44,8 +45,8 @@ pub data Clean (l : List ℕ) (k : ℕ) : Type 0 where
 
 -- the reason and the letter of a bad escape that ends a literal, which only a strict one can have
 pub record Blamed (l : List ℕ) (reason letter : ℕ) : Type 0 where
-  pub low : 5 ≤ reason
-  pub high : reason ≤ 9
+  pub low : reasons.badX ≤ reason
+  pub high : reason ≤ reasons.unknownEscape
   pub named : letter ≡ byte l 1
 
 abbrev pub Named : Mode → List ℕ → End → Type 0
@@ -60,7 +61,7 @@ Named Tolerant l (end.Bad reason letter) = ⊥
 pub record Ended (m : Mode) (l : List ℕ) (e : End) (k : ℕ) : Type 0 where
   pub upto : k ≤ length l
   pub named : Named m l e
-  pub clean : (endReason e ≡ 9 → ⊥) → Clean l k
+  pub clean : (endReason e ≡ reasons.unknownEscape → ⊥) → Clean l k
 
 -- what a step at the offset `at` is, l being left
 abbrev pub Apt : Mode → ℕ → List ℕ → Step → Type 0

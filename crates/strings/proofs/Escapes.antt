@@ -18,6 +18,7 @@ use Rattle.base.specs.Bytes.{byte, within}
 use Rattle.base.proofs.Tests.{and-left, and-right, within-low, within-high}
 use Rattle.utf8.specs.Character.{isScalar, encodeOf, octetsOf}
 use Rattle.utf8.specs.declared.character.Encoded.{Encoded}
+use Rattle.token.specs.Reason as reasons
 use Rattle.strings.specs.Piece.{hexOf, octOf, simpleOf, bytesPiece, hexPiece, octPiece, hexCount, hexValue, codePiece, escapePiece, pieceOf}
 use Rattle.strings.specs.declared.piece.Piece.{Piece}
 use Rattle.strings.specs.declared.piece.Piece.the-variants.{Bytes, Bad, Close, Newline, Cut, Open}
@@ -120,25 +121,25 @@ module _ (f h k : ℕ) (t : ltb h 8 && ltb k 8 ≡ true) (low : 48 ≤ f) (high 
 
 module _ (l : List ℕ) (x y : ℕ) (ex : x ≡ byte l 2) (ey : y ≡ byte l 3) where
   module _ (h k : ℕ) (eh : h ≡ hexOf x) (ek : k ≡ hexOf y) where
-    hex-is : hexPiece l ≡ pick (ltb h 16 && ltb k 16) (Bytes 1 (h * 16 + k) 0 0 0 4) (Bad 5 0x78 2)
+    hex-is : hexPiece l ≡ pick (ltb h 16 && ltb k 16) (Bytes 1 (h * 16 + k) 0 0 0 4) (Bad reasons.badX 0x78 2)
     unfolding hexPiece
     hex-is = rw (eh, ek, ex, ey)
 
     pub hex-good : (p : Piece) → ltb h 16 && ltb k 16 ≡ true → p ≡ Bytes 1 (h * 16 + k) 0 0 0 4 → p ≡ hexPiece l
     hex-good p t e = rw (hex-is, t) e
 
-    pub hex-bad : (p : Piece) → ltb h 16 && ltb k 16 ≡ false → p ≡ Bad 5 0x78 2 → p ≡ hexPiece l
+    pub hex-bad : (p : Piece) → ltb h 16 && ltb k 16 ≡ false → p ≡ Bad reasons.badX 0x78 2 → p ≡ hexPiece l
     hex-bad p t e = rw (hex-is, t) e
 
   module _ (f h k : ℕ) (eh : h ≡ octOf x) (ek : k ≡ octOf y) where
-    oct-is : octPiece f l ≡ pick (ltb h 8 && ltb k 8) (Bytes 1 ((f - 48) * 64 + h * 8 + k) 0 0 0 4) (Bad 6 f 2)
+    oct-is : octPiece f l ≡ pick (ltb h 8 && ltb k 8) (Bytes 1 ((f - 48) * 64 + h * 8 + k) 0 0 0 4) (Bad reasons.badOctal f 2)
     unfolding octPiece
     oct-is = rw (eh, ek, ex, ey)
 
     pub oct-good : (p : Piece) → ltb h 8 && ltb k 8 ≡ true → p ≡ Bytes 1 ((f - 48) * 64 + h * 8 + k) 0 0 0 4 → p ≡ octPiece f l
     oct-good p t e = rw (oct-is, t) e
 
-    pub oct-bad : (p : Piece) → ltb h 8 && ltb k 8 ≡ false → p ≡ Bad 6 f 2 → p ≡ octPiece f l
+    pub oct-bad : (p : Piece) → ltb h 8 && ltb k 8 ≡ false → p ≡ Bad reasons.badOctal f 2 → p ≡ octPiece f l
     oct-bad p t e = rw (oct-is, t) e
 
 -- `code_escape` after k digits of n: l is the text after the letter, and r the number that they spell
@@ -248,24 +249,24 @@ module _ (l : List ℕ) (s : ℕ) (es : s ≡ simpleOf (byte l 1)) where
     esc-hex p x e = simp (e, ← es, eq-eqb s 0 z, eq-eqb (byte l 1) 0x78 x)
 
     module _ (nx : byte l 1 ≡ 0x78 → ⊥) where
-      pub esc-u : (p : Piece) → byte l 1 ≡ 0x75 → p ≡ codePiece 4 7 0x75 (drop 2 l) → p ≡ escapePiece l
+      pub esc-u : (p : Piece) → byte l 1 ≡ 0x75 → p ≡ codePiece 4 reasons.badU 0x75 (drop 2 l) → p ≡ escapePiece l
       unfolding escapePiece
       esc-u p x e = simp (e, ← es, eq-eqb s 0 z, ne-eqb (byte l 1) 0x78 nx, eq-eqb (byte l 1) 0x75 x)
 
       module _ (nu : byte l 1 ≡ 0x75 → ⊥) where
-        pub esc-U : (p : Piece) → byte l 1 ≡ 0x55 → p ≡ codePiece 8 8 0x55 (drop 2 l) → p ≡ escapePiece l
+        pub esc-U : (p : Piece) → byte l 1 ≡ 0x55 → p ≡ codePiece 8 reasons.badCapitalU 0x55 (drop 2 l) → p ≡ escapePiece l
         unfolding escapePiece
         esc-U p x e = simp (e, ← es, eq-eqb s 0 z, ne-eqb (byte l 1) 0x78 nx, ne-eqb (byte l 1) 0x75 nu, eq-eqb (byte l 1) 0x55 x)
 
         module _ (nU : byte l 1 ≡ 0x55 → ⊥) where
-          rest : escapePiece l ≡ pick (within 48 51 (byte l 1)) (octPiece (byte l 1) l) (Bad 9 (byte l 1) 2)
+          rest : escapePiece l ≡ pick (within 48 51 (byte l 1)) (octPiece (byte l 1) l) (Bad reasons.unknownEscape (byte l 1) 2)
           unfolding escapePiece
           rest = simp (← es, eq-eqb s 0 z, ne-eqb (byte l 1) 0x78 nx, ne-eqb (byte l 1) 0x75 nu, ne-eqb (byte l 1) 0x55 nU)
 
           pub esc-oct : (p : Piece) → within 48 51 (byte l 1) ≡ true → p ≡ octPiece (byte l 1) l → p ≡ escapePiece l
           esc-oct p t e = rw (rest, t) e
 
-          pub esc-unknown : (p : Piece) → within 48 51 (byte l 1) ≡ false → p ≡ Bad 9 (byte l 1) 2 → p ≡ escapePiece l
+          pub esc-unknown : (p : Piece) → within 48 51 (byte l 1) ≡ false → p ≡ Bad reasons.unknownEscape (byte l 1) 2 → p ≡ escapePiece l
           esc-unknown p t e = rw (rest, t) e
 
 -- what the octal escape asks for

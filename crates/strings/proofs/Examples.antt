@@ -4,7 +4,7 @@ use mathlib.Core.Path.{_≡_, refl}
 use mathlib.Core.List.{List, [], _∷_, map}
 use Prim.Native.Nat.{ℕ}
 use Rattle.token.specs.declared.kind.TokenKind.the-variants as K
-use Rattle.lexeme.specs.Lexeme.{Note, extent, illegal, noteAtStart}
+use Rattle.lexeme.specs.Lexeme.{Note, extent, illegalReported, illegal, noteAtStart}
 use Rattle.lexeme.specs.declared.Lexeme.{Lexeme}
 use Rattle.lexeme.specs.declared.Mode.{Mode}
 use Rattle.lexeme.specs.declared.Mode.the-variants.{Strict, Tolerant}
@@ -14,7 +14,7 @@ use Rattle.utf8.specs.Check.{isTail, charEnd}
 use Rattle.utf8.specs.Character.{isScalar, encodeOf}
 use Rattle.strings.specs.Piece.{hexOf, octOf, simpleOf, letters, hexPiece, octPiece, hexCount, hexValue, codePiece, escapePiece, pieceOf}
 use Rattle.strings.specs.Decode.{stepOf, letterDetail, stepNotes, decode}
-use Rattle.strings.specs.Literal.{wellFormed, literalOf, endReason, literalReason, endDetail, endOf, endNotes, literalNotes, illegalLiteral, lexString, stringBytes, stringNotes}
+use Rattle.strings.specs.Literal.{wellFormed, literalOf, endReason, literalReason, endDetail, endOf, endNotes, literalNotes, lexString, stringBytes, stringNotes}
 
 -- a text and what its literal is
 pub record Example : Type 0 where
@@ -63,7 +63,7 @@ examples =
     ∷ example Tolerant (0x22 ∷ 0x5C ∷ 0x75 ∷ 0x64 ∷ 0x38 ∷ 0x30 ∷ 0x30 ∷ 0x22 ∷ []) (extent K.String 8 0 2 1) (0x5C ∷ 0x75 ∷ []) (note 7 0 2 ∷ [])
     ∷ example Tolerant (0x22 ∷ 0x5C ∷ 0x75 ∷ 0x31 ∷ 0x22 ∷ []) (extent K.String 5 0 3 1) (0x5C ∷ 0x75 ∷ 0x31 ∷ []) (note 7 0 2 ∷ [])
     -- `"\xff\q`, tolerant: not UTF-8, and its reports stay
-    ∷ example Tolerant (0x22 ∷ 0x5C ∷ 0x78 ∷ 0x66 ∷ 0x66 ∷ 0x5C ∷ 0x71 ∷ []) (illegalLiteral 11 0 7 2) [] (note 9 113 6 ∷ noteAtStart 10 ∷ [])
+    ∷ example Tolerant (0x22 ∷ 0x5C ∷ 0x78 ∷ 0x66 ∷ 0x66 ∷ 0x5C ∷ 0x71 ∷ []) (illegalReported 11 0 7 2) [] (note 9 113 6 ∷ noteAtStart 10 ∷ [])
     ∷ []
 
 pub examples-hold : map computed examples ≡ examples

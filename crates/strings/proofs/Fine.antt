@@ -1,5 +1,5 @@
 -- What every piece has: it takes at least one byte and no more than there are, and gives fewer bytes than it takes or one that stands for
--- itself; a bad escape's letter stands after the backslash, and an ASCII byte before its end, where its reason is not 9. By cases on the
+-- itself; a bad escape's letter stands after the backslash, and an ASCII byte before its end, where it is no unknown escape. By cases on the
 -- tests. Assumes nothing.
 use mathlib.Core.Path.{_≡_, refl, sym}
 use mathlib.Core.Bool.{Bool, true, false, _&&_}
@@ -14,6 +14,7 @@ use Rattle.base.specs.Choice.{pick}
 use Rattle.base.specs.Bytes.{byte, within}
 use Rattle.base.proofs.Tests.{and-right, in-text, over, pick-case, true-false, within-high}
 use Rattle.utf8.specs.Character.{isScalar, encodeOf}
+use Rattle.token.specs.Reason as reasons
 use Rattle.strings.specs.Piece.{hexOf, octOf, simpleOf, hexPiece, octPiece, hexCount, hexValue, codePiece, escapePiece, pieceOf}
 use Rattle.strings.specs.declared.piece.Piece.{Piece}
 use Rattle.strings.specs.declared.piece.Piece.the-variants.{Bytes, Bad, Close, Newline, Cut, Open}
@@ -39,13 +40,13 @@ escaped l n a used t h = record { bytes = t; own = λ e. absurd (omega arith) }
 -- a bad escape of `used` bytes at the front of l
 pub record Refused (l : List ℕ) (reason letter used : ℕ) : Type 0 where
   pub bytes : Taken 2 used (length l)
-  pub low : 5 ≤ reason
-  pub high : reason ≤ 9
+  pub low : reasons.badX ≤ reason
+  pub high : reason ≤ reasons.unknownEscape
   pub named : letter ≡ byte l 1
-  pub last : (reason ≡ 9 → ⊥) → byte l (used - 1) < 0x80
+  pub last : (reason ≡ reasons.unknownEscape → ⊥) → byte l (used - 1) < 0x80
 
-refused : (l : List ℕ) (reason letter used : ℕ) → Taken 2 used (length l) → 5 ≤ reason → reason ≤ 9 → letter ≡ byte l 1
-    → ((reason ≡ 9 → ⊥) → byte l (used - 1) < 0x80) → Refused l reason letter used
+refused : (l : List ℕ) (reason letter used : ℕ) → Taken 2 used (length l) → reasons.badX ≤ reason → reason ≤ reasons.unknownEscape → letter ≡ byte l 1
+    → ((reason ≡ reasons.unknownEscape → ⊥) → byte l (used - 1) < 0x80) → Refused l reason letter used
 refused l reason letter used t a b n e = record { bytes = t; low = a; high = b; named = n; last = e }
 
 -- an ASCII byte at the front
@@ -115,7 +116,8 @@ unfolding octOf
 oct-zero = refl
 
 module _ (t : List ℕ) (two : 1 < length t) where
-  bad-2 : (reason letter : ℕ) → 5 ≤ reason → reason ≤ 9 → letter ≡ byte t 1 → ((reason ≡ 9 → ⊥) → byte t 1 < 0x80) → Fine t (Bad reason letter 2)
+  bad-2 : (reason letter : ℕ) → reasons.badX ≤ reason → reason ≤ reasons.unknownEscape → letter ≡ byte t 1
+      → ((reason ≡ reasons.unknownEscape → ⊥) → byte t 1 < 0x80) → Fine t (Bad reason letter 2)
   bad-2 reason letter a b n e = refused t reason letter 2 (taken 2 2 (length t) (lit≤ tt) two (lit≤ tt) (lit≤ tt)) a b n e
 
   one-4 : (a : ℕ) → 3 < length t → Given t 1 a 4
@@ -127,7 +129,7 @@ module _ (t : List ℕ) (two : 1 < length t) where
       let a = ltb (hexOf (byte t 2)) 16 in
       let b = ltb (hexOf (byte t 3)) 16 in
       fine-pick t (a && b) _ _ (λ e. one-4 _ (in-text (λ (c : ℕ). ltb (hexOf c) 16) t 3 hex-zero (and-right a b e)))
-      (λ _. bad-2 5 0x78 (lit≤ tt) (lit≤ tt) (sym x) (λ _. omega arith))
+      (λ _. bad-2 reasons.badX 0x78 (lit≤ tt) (lit≤ tt) (sym x) (λ _. omega arith))
 
   fine-oct : byte t 1 < 0x80 → Fine t (octPiece (byte t 1) t)
   unfolding octPiece
@@ -135,7 +137,7 @@ module _ (t : List ℕ) (two : 1 < length t) where
       let a = ltb (octOf (byte t 2)) 8 in
       let b = ltb (octOf (byte t 3)) 8 in
       fine-pick t (a && b) _ _ (λ e. one-4 _ (in-text (λ (c : ℕ). ltb (octOf c) 8) t 3 oct-zero (and-right a b e)))
-      (λ _. bad-2 6 (byte t 1) (lit≤ tt) (lit≤ tt) refl (λ _. h))
+      (λ _. bad-2 reasons.badOctal (byte t 1) (lit≤ tt) (lit≤ tt) refl (λ _. h))
 
   -- what stands before the end of the digits that are counted
   code-last : (n : ℕ) → byte t 1 < 0x80 → byte t (hexCount n (drop 2 t) + 2 - 1) < 0x80
@@ -147,7 +149,8 @@ module _ (t : List ℕ) (two : 1 < length t) where
           let j : suc k + 2 - 1 ≡ 2 + k = omega arith in
           rw (j, ← getD-drop 2 t k 0) (count-last n (drop 2 t) k e)
 
-  fine-code : (n reason letter : ℕ) → 3 ≤ n → 5 ≤ reason → reason ≤ 8 → letter ≡ byte t 1 → byte t 1 < 0x80 → Fine t (codePiece n reason letter (drop 2 t))
+  fine-code : (n reason letter : ℕ) → 3 ≤ n → reasons.badX ≤ reason → reason ≤ reasons.badCapitalU → letter ≡ byte t 1 → byte t 1 < 0x80
+      → Fine t (codePiece n reason letter (drop 2 t))
   unfolding codePiece
   fine-code n reason letter h lo hi nm ascii =
       let l = drop 2 t in
@@ -171,11 +174,11 @@ module _ (t : List ℕ) (two : 1 < length t) where
       fine-pick t (eqb (simpleOf e) 0) _ _
       (λ _. fine-pick t (eqb e 0x78) _ _ (λ x. fine-hex (eqb-true e 0x78 x))
       (λ _. fine-pick t (eqb e 0x75) _ _
-      (λ x. let q = eqb-true e 0x75 x in fine-code 4 7 0x75 (lit≤ tt) (lit≤ tt) (lit≤ tt) (sym q) (omega arith))
+      (λ x. let q = eqb-true e 0x75 x in fine-code 4 reasons.badU 0x75 (lit≤ tt) (lit≤ tt) (lit≤ tt) (sym q) (omega arith))
       (λ _. fine-pick t (eqb e 0x55) _ _
-      (λ x. let q = eqb-true e 0x55 x in fine-code 8 8 0x55 (lit≤ tt) (lit≤ tt) (lit≤ tt) (sym q) (omega arith))
+      (λ x. let q = eqb-true e 0x55 x in fine-code 8 reasons.badCapitalU 0x55 (lit≤ tt) (lit≤ tt) (lit≤ tt) (sym q) (omega arith))
       (λ _. fine-pick t (within 48 51 e) _ _ (λ x. let q = within-high 48 51 e x in fine-oct (omega arith))
-      (λ _. bad-2 9 e (lit≤ tt) (lit≤ tt) refl (λ n. absurd (n refl)))))))
+      (λ _. bad-2 reasons.unknownEscape e (lit≤ tt) (lit≤ tt) refl (λ n. absurd (n refl)))))))
       (λ _. escaped t 1 _ 2 (taken 1 2 (length t) (lit≤ tt) two (lit≤ tt) (lit≤ tt)) (lit≤ tt))
 
 front : (c : ℕ) (l : List ℕ) (k : ℕ) → eqb c k ≡ true → k < 0x80 → Front (c ∷ l)

@@ -11,12 +11,13 @@ use mir.Val.{Fits}
 use Rattle.utf8.specs.Check.{charEnd}
 use Rattle.utf8.specs.State.{fresh}
 use Rattle.utf8.proofs.States.{state-law}
+use Rattle.token.specs.Reason as reasons
 use Rattle.token.specs.declared.kind.TokenKind.the-variants as K
-use Rattle.lexeme.specs.Lexeme.{extent, illegal}
+use Rattle.lexeme.specs.Lexeme.{extent, illegalReported, illegal}
 use Rattle.lexeme.specs.declared.Lexeme.{Lexeme}
 use Rattle.lexeme.specs.declared.Mode.the-variants.{Strict, Tolerant}
 use Rattle.strings.specs.Decode.{Decoded, letterDetail, measured}
-use Rattle.strings.specs.Literal.{wellFormed, literalOf, endReason, literalReason, endDetail, endOf, endNotes, literalNotes, illegalLiteral, lexString}
+use Rattle.strings.specs.Literal.{wellFormed, literalOf, endReason, literalReason, endDetail, endOf, endNotes, literalNotes, lexString}
 use Rattle.strings.specs.declared.literal.End.{End}
 use Rattle.strings.specs.declared.literal.End.the-variants as end
 use Rattle.strings.specs.declared.literal.Measure.{Measure}
@@ -24,22 +25,22 @@ use Rattle.strings.proofs.Bounds.{Bounds, literal-bounds, Sound, zero-s
 
 -- `letter_detail` and `end_of`: only an unknown escape has its letter as detail, and ends after a character
 module _ (reason letter : ℕ) where
-  pub letter-9 : reason ≡ 9 → letter ≡ letterDetail reason letter
+  pub letter-unknown : reason ≡ reasons.unknownEscape → letter ≡ letterDetail reason letter
   unfolding letterDetail
-  letter-9 e = rw e
+  letter-unknown e = rw e
 
-  pub letter-other : (reason ≡ 9 → ⊥) → 0 ≡ letterDetail reason letter
+  pub letter-other : (reason ≡ reasons.unknownEscape → ⊥) → 0 ≡ letterDetail reason letter
   unfolding letterDetail
-  letter-other n = rw (ne-eqb reason 9 n)
+  letter-other n = rw (ne-eqb reason reasons.unknownEscape n)
 
   module _ (s : List ℕ) (e : End) (stop : ℕ) (is : e ≡ end.Bad reason letter) where
-    pub end-9 : (x : ℕ) → reason ≡ 9 → x ≡ charEnd s stop → x ≡ endOf s e stop
+    pub end-unknown : (x : ℕ) → reason ≡ reasons.unknownEscape → x ≡ charEnd s stop → x ≡ endOf s e stop
     unfolding endOf
-    end-9 x z q = rw (is, eq-eqb reason 9 z) q
+    end-unknown x z q = rw (is, eq-eqb reason reasons.unknownEscape z) q
 
-    pub end-other : (reason ≡ 9 → ⊥) → stop ≡ endOf s e stop
+    pub end-other : (reason ≡ reasons.unknownEscape → ⊥) → stop ≡ endOf s e stop
     unfolding endOf
-    end-other n = rw (is, ne-eqb reason 9 n)
+    end-other n = rw (is, ne-eqb reason reasons.unknownEscape n)
 
 -- the state that is measured says whether the bytes are UTF-8
 module _ (d : Decoded) (m : Measure) (em : m ≡ measured 0 0 fresh d) where
@@ -63,25 +64,27 @@ module _ (s : List ℕ) (m : Measure) (em : m ≡ measured 0 0 fresh (literalOf 
   same-reason : endReason (literalOf Strict s .ending) ≡ reason
   same-reason = rw (← ended (literalOf Strict s) m em) (sym er)
 
-  pub strict-bad : (k x : ℕ) (r : Lexeme) → (reason ≡ 0 → ⊥) → k ≡ endDetail (m .end) → x ≡ endOf s (m .end) (m .stop) → r ≡ illegal reason k x
+  pub strict-bad : (k x : ℕ) (r : Lexeme) → (reason ≡ reasons.none → ⊥) → k ≡ endDetail (m .end) → x ≡ endOf s (m .end) (m .stop) → r ≡ illegal reason k x
       → r ≡ lexString Strict s
   unfolding lexString literalReason literalNotes
   strict-bad k x r n ek ex e =
-      e ∙ simp (same-reason, ne-eqb reason 0 n, ek, ex, ended (literalOf Strict s) m em, stopped (literalOf Strict s) m em)
+      e ∙ simp (same-reason, ne-eqb reason reasons.none n, ek, ex, ended (literalOf Strict s) m em, stopped (literalOf Strict s) m em)
 
-  module _ (z : reason ≡ 0) where
+  module _ (z : reason ≡ reasons.none) where
     sound : Sound s (literalOf Strict s .ending)
     sound = zero-sound s (literalOf Strict s .ending) (same-reason ∙ z)
 
-    pub strict-ill : (r : Lexeme) → (m .state .need ≡ 0 → ⊥) → r ≡ illegal 11 0 (m .stop) → r ≡ lexString Strict s
+    pub strict-ill : (r : Lexeme) → (m .state .need ≡ 0 → ⊥) → r ≡ illegal reasons.stringNotUtf8 0 (m .stop) → r ≡ lexString Strict s
     unfolding lexString literalReason literalNotes
     strict-ill r n e =
-        e ∙ simp (same-reason, eq-eqb reason 0 z, formed (literalOf Strict s) m em, ne-eqb (m .state .need) 0 n, sound .detail, sound .stays, stopped (literalOf Strict s) m em)
+        let d : Decoded = literalOf Strict s in
+        e ∙ simp (same-reason, eq-eqb reason reasons.none z, formed d m em, ne-eqb (m .state .need) 0 n, sound .detail, sound .stays, stopped d m em)
 
     pub strict-string : (r : Lexeme) → m .state .need ≡ 0 → r ≡ extent K.String (m .stop) 0 (m .count) 0 → r ≡ lexString Strict s
     unfolding lexString literalReason literalNotes
     strict-string r n e =
-        e ∙ simp (same-reason, eq-eqb reason 0 z, formed (literalOf Strict s) m em, eq-eqb (m .state .need) 0 n, counted (literalOf Strict s) m em, stopped (literalOf Strict s) m em)
+        let d : Decoded = literalOf Strict s in
+        e ∙ simp (same-reason, eq-eqb reason reasons.none z, formed d m em, eq-eqb (m .state .need) 0 n, counted d m em, stopped d m em)
 
 module _ (s : List ℕ) (m : Measure) (em : m ≡ measured 0 0 fresh (literalOf Tolerant s)) (h : 0 < length s) (k : ℕ) (ek : k ≡ length (endNotes (m .end))) where
   noted : m .reports + k ≡ length (literalNotes Tolerant (literalOf Tolerant s))
@@ -98,8 +101,9 @@ module _ (s : List ℕ) (m : Measure) (em : m ≡ measured 0 0 fresh (literalOf 
   tolerant-string r n e =
       e ∙ simp (noted, formed (literalOf Tolerant s) m em, eq-eqb (m .state .need) 0 n, counted (literalOf Tolerant s) m em, stopped (literalOf Tolerant s) m em)
 
-  pub tolerant-ill : (m .state .need ≡ 0 → ⊥) → illegalLiteral 11 0 (m .stop) (m .reports + k) ≡ lexString Tolerant s
+  pub tolerant-ill : (r : Lexeme) → (m .state .need ≡ 0 → ⊥) → r ≡ illegalReported reasons.stringNotUtf8 0 (m .stop) (m .reports + k)
+      → r ≡ lexString Tolerant s
   unfolding lexString literalReason
-  tolerant-ill n =
+  tolerant-ill r n e =
       let t : Sound s (literalOf Tolerant s .ending) = tolerant-sound s h in
-      simp (noted, formed (literalOf Tolerant s) m em, ne-eqb (m .state .need) 0 n, t .detail, t .stays, stopped (literalOf Tolerant s) m em)
+      e ∙ simp (noted, formed (literalOf Tolerant s) m em, ne-eqb (m .state .need) 0 n, t .detail, t .stays, stopped (literalOf Tolerant s) m em)

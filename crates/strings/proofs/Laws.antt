@@ -19,14 +19,15 @@ use Rattle.utf8.specs.Grammar.{Octets, none, validTo, Boundary}
 use Rattle.utf8.specs.Check.{isTail, inTails, charEnd}
 use Rattle.utf8.proofs.Valid.{valid-octets}
 use Rattle.utf8.proofs.Boundaries.{boundary-at, ascii-boundary}
+use Rattle.token.specs.Reason as reasons
 use Rattle.token.specs.declared.kind.TokenKind.the-variants as K
-use Rattle.lexeme.specs.Lexeme.{Note, noteAtStart, extent}
+use Rattle.lexeme.specs.Lexeme.{Note, noteAtStart, extent, illegalReported}
 use Rattle.lexeme.specs.declared.Lexeme.{Lexeme}
 use Rattle.lexeme.specs.declared.Mode.{Mode}
 use Rattle.lexeme.specs.declared.Mode.the-variants.{Strict, Tolerant}
-use Rattle.lexeme.proofs.Within.{Within, extent-within}
+use Rattle.lexeme.proofs.Within.{Within, extent-within, illegal-within}
 use Rattle.strings.specs.Decode.{Decoded, letterDetail, stepNotes, decode}
-use Rattle.strings.specs.Literal.{wellFormed, literalOf, endReason, literalReason, endDetail, endOf, endNotes, literalNotes, illegalLiteral, lexString, Sized, stringBytes, stringNotes}
+use Rattle.strings.specs.Literal.{wellFormed, literalOf, endReason, literalReason, endDetail, endOf, endNotes, literalNotes, lexString, Sized, stringBytes, stringNotes}
 use Rattle.strings.specs.declared.literal.End.{End}
 use Rattle.strings.specs.declared.literal.End.the-variants as end
 use Rattle.strings.proofs.Fine.{Taken}
@@ -36,44 +37,44 @@ use Rattle.strings.proofs.Bounds.{Bounds, literal-bounds, Sound, zero-s
 -- ---- a literal is a String with its bytes, or Illegal with none
 
 module _ (m : Mode) (s : List ℕ) (P : Lexeme → List ℕ → Type 0) where
-  pub by-verdict : (literalReason m (literalOf m s) ≡ 0
+  pub by-verdict : (literalReason m (literalOf m s) ≡ reasons.none
       → P (extent K.String (literalOf m s .stop) 0 (length (literalOf m s .bytes)) (length (literalNotes m (literalOf m s)))) (literalOf m s .bytes))
-      → ((literalReason m (literalOf m s) ≡ 0 → ⊥)
-      → P (illegalLiteral (literalReason m (literalOf m s)) (endDetail (literalOf m s .ending)) (endOf s (literalOf m s .ending) (literalOf m s .stop))
+      → ((literalReason m (literalOf m s) ≡ reasons.none → ⊥)
+      → P (illegalReported (literalReason m (literalOf m s)) (endDetail (literalOf m s .ending)) (endOf s (literalOf m s .ending) (literalOf m s .stop))
       (length (literalNotes m (literalOf m s)))) [])
       → P (lexString m s) (stringBytes m s)
   unfolding lexString stringBytes
-  by-verdict f g = go (eqb (literalReason m (literalOf m s)) 0) refl
+  by-verdict f g = go (eqb (literalReason m (literalOf m s)) reasons.none) refl
     where
-      go : (b : Bool) → eqb (literalReason m (literalOf m s)) 0 ≡ b
+      go : (b : Bool) → eqb (literalReason m (literalOf m s)) reasons.none ≡ b
           → P (pick b (extent K.String (literalOf m s .stop) 0 (length (literalOf m s .bytes)) (length (literalNotes m (literalOf m s))))
-          (illegalLiteral (literalReason m (literalOf m s)) (endDetail (literalOf m s .ending)) (endOf s (literalOf m s .ending) (literalOf m s .stop))
+          (illegalReported (literalReason m (literalOf m s)) (endDetail (literalOf m s .ending)) (endOf s (literalOf m s .ending) (literalOf m s .stop))
           (length (literalNotes m (literalOf m s)))))
           (pick b (literalOf m s .bytes) [])
-      go true e = f (eqb-true (literalReason m (literalOf m s)) 0 e)
-      go false e = g (eqb-false (literalReason m (literalOf m s)) 0 e)
+      go true e = f (eqb-true (literalReason m (literalOf m s)) reasons.none e)
+      go false e = g (eqb-false (literalReason m (literalOf m s)) reasons.none e)
 
 -- without a reason the bytes are UTF-8, and a strict ending has none
-formed-pick : (x w : Bool) (r : ℕ) → eqb r 0 ≡ x → pick x (pick w 0 11) r ≡ 0 → w ≡ true
+formed-pick : (x w : Bool) (r : ℕ) → eqb r reasons.none ≡ x → pick x (pick w reasons.none reasons.stringNotUtf8) r ≡ reasons.none → w ≡ true
 formed-pick true true r e z = refl
 formed-pick true false r e z = absurd (omega arith)
-formed-pick false w r e z = absurd (eqb-false r 0 e z)
+formed-pick false w r e z = absurd (eqb-false r reasons.none e z)
 
-sound-pick : (x w : Bool) (r : ℕ) → eqb r 0 ≡ x → pick x (pick w 0 11) r ≡ 0 → r ≡ 0
-sound-pick true w r e z = eqb-true r 0 e
+sound-pick : (x w : Bool) (r : ℕ) → eqb r reasons.none ≡ x → pick x (pick w reasons.none reasons.stringNotUtf8) r ≡ reasons.none → r ≡ reasons.none
+sound-pick true w r e z = eqb-true r reasons.none e
 sound-pick false w r e z = z
 
-formed : (m : Mode) (d : Decoded) → literalReason m d ≡ 0 → wellFormed (d .bytes) ≡ true
+formed : (m : Mode) (d : Decoded) → literalReason m d ≡ reasons.none → wellFormed (d .bytes) ≡ true
 unfolding literalReason
-formed Strict d z = formed-pick (eqb (endReason (d .ending)) 0) (wellFormed (d .bytes)) (endReason (d .ending)) refl z
-formed Tolerant d z = formed-pick true (wellFormed (d .bytes)) 0 refl z
+formed Strict d z = formed-pick (eqb (endReason (d .ending)) reasons.none) (wellFormed (d .bytes)) (endReason (d .ending)) refl z
+formed Tolerant d z = formed-pick true (wellFormed (d .bytes)) reasons.none refl z
 
-unreasoned : (d : Decoded) → literalReason Strict d ≡ 0 → endReason (d .ending) ≡ 0
+unreasoned : (d : Decoded) → literalReason Strict d ≡ reasons.none → endReason (d .ending) ≡ reasons.none
 unfolding literalReason
-unreasoned d z = sound-pick (eqb (endReason (d .ending)) 0) (wellFormed (d .bytes)) (endReason (d .ending)) refl z
+unreasoned d z = sound-pick (eqb (endReason (d .ending)) reasons.none) (wellFormed (d .bytes)) (endReason (d .ending)) refl z
 
 -- so a strict String is closed
-named-closed : (l : List ℕ) (e : End) → Named Strict l e → endReason e ≡ 0 → e ≡ end.Closed
+named-closed : (l : List ℕ) (e : End) → Named Strict l e → endReason e ≡ reasons.none → e ≡ end.Closed
 unfolding endReason
 named-closed l end.Closed n z = refl
 named-closed l end.AtNewline n z = absurd (omega arith)
@@ -81,19 +82,19 @@ named-closed l end.Cut n z = absurd (omega arith)
 named-closed l end.Open n z = absurd (omega arith)
 named-closed l (end.Bad reason letter) n z = absurd (omega (arith, n .low))
 
-zero-closed : (s : List ℕ) → endReason (literalOf Strict s .ending) ≡ 0 → literalOf Strict s .ending ≡ end.Closed
+zero-closed : (s : List ℕ) → endReason (literalOf Strict s .ending) ≡ reasons.none → literalOf Strict s .ending ≡ end.Closed
 unfolding literalOf decode endReason
 zero-closed [] z = absurd (omega arith)
 zero-closed (x ∷ s) z =
-    by-steps Strict (x ∷ s) (λ (i : ℕ) (d : Decoded). endReason (d .ending) ≡ 0 → d .ending ≡ end.Closed)
+    by-steps Strict (x ∷ s) (λ (i : ℕ) (d : Decoded). endReason (d .ending) ≡ reasons.none → d .ending ≡ end.Closed)
     (λ i e p k g u. named-closed (drop i (x ∷ s)) e (u .named)) (λ i n a b c d used reason r k w v. v) 1 (omega arith) z
 
-string-closed : (m : Mode) (s : List ℕ) → literalReason m (literalOf m s) ≡ 0 → m ≡ Strict → literalOf m s .ending ≡ end.Closed
+string-closed : (m : Mode) (s : List ℕ) → literalReason m (literalOf m s) ≡ reasons.none → m ≡ Strict → literalOf m s .ending ≡ end.Closed
 string-closed Strict s z e = zero-closed s (unreasoned (literalOf Strict s) z)
 string-closed Tolerant s z e = cc
 
 -- and no String's ending is a bad escape
-string-sound : (m : Mode) (s : List ℕ) → 0 < length s → literalReason m (literalOf m s) ≡ 0 → Sound s (literalOf m s .ending)
+string-sound : (m : Mode) (s : List ℕ) → 0 < length s → literalReason m (literalOf m s) ≡ reasons.none → Sound s (literalOf m s .ending)
 string-sound Strict s h z = zero-sound s (literalOf Strict s .ending) (unreasoned (literalOf Strict s) z)
 string-sound Tolerant s h z = tolerant-sound s h
 
@@ -111,8 +112,8 @@ module _ (m : Mode) (s : List ℕ) where
   string-kind = by-verdict m s (λ r bs. (r .kind ≡ K.String) ⊎ (r .kind ≡ K.Illegal)) (λ _. inl refl) (λ _. inr refl)
 
   -- a String has no reason, the decoded bytes, and these are UTF-8
-  pub string-reason : lexString m s .kind ≡ K.String → lexString m s .reason ≡ 0
-  string-reason = by-verdict m s (λ r bs. r .kind ≡ K.String → r .reason ≡ 0) (λ _ _. refl) (λ _ k. cc)
+  pub string-reason : lexString m s .kind ≡ K.String → lexString m s .reason ≡ reasons.none
+  string-reason = by-verdict m s (λ r bs. r .kind ≡ K.String → r .reason ≡ reasons.none) (λ _ _. refl) (λ _ k. cc)
 
   pub string-bytes : lexString m s .kind ≡ K.String → stringBytes m s ≡ literalOf m s .bytes
   string-bytes = by-verdict m s (λ r bs. r .kind ≡ K.String → bs ≡ literalOf m s .bytes) (λ _ _. refl) (λ _ k. cc)
@@ -131,24 +132,24 @@ module _ (m : Mode) (s : List ℕ) where
       by-verdict m s (λ r bs. Octets bs) (λ z. valid-octets l (eqb-true (validTo l) (length l) (formed m (literalOf m s) z))) (λ _. none)
 
   -- an Illegal literal has a reason, and no bytes
-  pub illegal-reason : lexString m s .kind ≡ K.Illegal → 0 < lexString m s .reason
+  pub illegal-reason : lexString m s .kind ≡ K.Illegal → reasons.none < lexString m s .reason
   illegal-reason =
-      by-verdict m s (λ r bs. r .kind ≡ K.Illegal → 0 < r .reason) (λ _ k. let z : _≡_ {A = ℕ} 0 1 = cc in absurd (omega arith)) (λ n _. omega arith)
+      by-verdict m s (λ r bs. r .kind ≡ K.Illegal → reasons.none < r .reason) (λ _ k. let z : _≡_ {A = ℕ} 0 1 = cc in absurd (omega arith)) (λ n _. omega arith)
 
   pub illegal-bytes : lexString m s .kind ≡ K.Illegal → stringBytes m s ≡ []
   illegal-bytes = by-verdict m s (λ r bs. r .kind ≡ K.Illegal → bs ≡ []) (λ _ k. cc) (λ _ _. refl)
 
 -- ---- bounds
 
-reason-pick : (x w : Bool) (r : ℕ) → r ≤ 10 → pick x (pick w 0 11) r ≤ 18
+reason-pick : (x w : Bool) (r : ℕ) → r ≤ reasons.openString → pick x (pick w reasons.none reasons.stringNotUtf8) r ≤ reasons.last
 reason-pick true true r h = lit≤ tt
 reason-pick true false r h = lit≤ tt
 reason-pick false w r h = omega arith
 
-reason-le : (m : Mode) (d : Decoded) → endReason (d .ending) ≤ 10 → literalReason m d ≤ 18
+reason-le : (m : Mode) (d : Decoded) → endReason (d .ending) ≤ reasons.openString → literalReason m d ≤ reasons.last
 unfolding literalReason
-reason-le Strict d h = reason-pick (eqb (endReason (d .ending)) 0) (wellFormed (d .bytes)) (endReason (d .ending)) h
-reason-le Tolerant d h = reason-pick true (wellFormed (d .bytes)) 0 (lit≤ tt)
+reason-le Strict d h = reason-pick (eqb (endReason (d .ending)) reasons.none) (wellFormed (d .bytes)) (endReason (d .ending)) h
+reason-le Tolerant d h = reason-pick true (wellFormed (d .bytes)) reasons.none (lit≤ tt)
 
 -- an ending makes one report at most
 end-le : (e : End) → length (endNotes e) ≤ 1
@@ -175,7 +176,7 @@ module _ (s : List ℕ) (e : End) (p : ℕ) where
       go end.AtNewline = omega arith
       go end.Cut = omega arith
       go end.Open = omega arith
-      go (end.Bad reason letter) = pick-case (λ (x : ℕ). p ≤ x) (eqb reason 9) (λ _. reach-ge inTails s p) (λ _. omega arith)
+      go (end.Bad reason letter) = pick-case (λ (x : ℕ). p ≤ x) (eqb reason reasons.unknownEscape) (λ _. reach-ge inTails s p) (λ _. omega arith)
 
   end-in : p ≤ length s → endOf s e p ≤ length s
   unfolding endOf charEnd
@@ -186,31 +187,31 @@ module _ (s : List ℕ) (e : End) (p : ℕ) where
       go end.AtNewline = h
       go end.Cut = h
       go end.Open = h
-      go (end.Bad reason letter) = pick-le (eqb reason 9) (reach-le inTails s p h) h
+      go (end.Bad reason letter) = pick-le (eqb reason reasons.unknownEscape) (reach-le inTails s p h) h
 
 detail-pick : (b : Bool) (x : ℕ) → x < 256 → pick b x 0 ≤ 255
 detail-pick b x h = pick-le b (omega arith) (omega arith)
 
 letter-le : (reason letter : ℕ) → letter < 256 → letterDetail reason letter ≤ 255
 unfolding letterDetail
-letter-le reason letter h = detail-pick (eqb reason 9) letter h
+letter-le reason letter h = detail-pick (eqb reason reasons.unknownEscape) letter h
 
 -- a report of a literal
 pub record NoteIn (s : List ℕ) (n : Note) : Type 0 where
-  pub reason-in : n .reason ≤ 20
+  pub reason-in : n .reason ≤ reasons.last
   pub detail-in : AreBytes s → n .detail ≤ 255
   pub offset-in : n .offset ≤ length s
 
 -- the report of an ending
-start-note : (s : List ℕ) (x : Note) (r : ℕ) → r ≤ 20 → List·Memᴰ x (noteAtStart r ∷ []) → NoteIn s x
+start-note : (s : List ℕ) (x : Note) (r : ℕ) → r ≤ reasons.last → List·Memᴰ x (noteAtStart r ∷ []) → NoteIn s x
 start-note s x r h q = rw (List·Memᴰ·eq-of-singleton q) (record { reason-in = h; detail-in = λ _. zero-le; offset-in = zero-le })
 
 end-note : (s : List ℕ) (x : Note) (e : End) → List·Memᴰ x (endNotes e) → NoteIn s x
 unfolding endNotes
 end-note s x end.Closed q = absurd (List·Memᴰ·not-nil q)
-end-note s x end.AtNewline q = start-note s x 19 (lit≤ tt) q
-end-note s x end.Cut q = start-note s x 4 (lit≤ tt) q
-end-note s x end.Open q = start-note s x 10 (lit≤ tt) q
+end-note s x end.AtNewline q = start-note s x reasons.stringEndedAtNewline (lit≤ tt) q
+end-note s x end.Cut q = start-note s x reasons.openEscape (lit≤ tt) q
+end-note s x end.Open q = start-note s x reasons.openString (lit≤ tt) q
 end-note s x (end.Bad reason letter) q = absurd (List·Memᴰ·not-nil q)
 
 module _ (m : Mode) (s : List ℕ) (h : 0 < length s) where
@@ -228,14 +229,19 @@ module _ (m : Mode) (s : List ℕ) (h : 0 < length s) where
 
   step-notes : (i n b used reason : ℕ) → i ≤ length s → Went (drop i s) n b used reason → (x : Note) → List·Memᴰ x (stepNotes reason b i) → NoteIn s x
   unfolding stepNotes
-  step-notes i n b used reason k w x = go (eqb reason 0) refl
+  step-notes i n b used reason k w x = go (eqb reason reasons.none) refl
     where
-      go : (z : Bool) → eqb reason 0 ≡ z → List·Memᴰ x (pick z [] (record { reason = reason; detail = letterDetail reason b; offset = i + 1 } ∷ [])) → NoteIn s x
+      go : (z : Bool) → eqb reason reasons.none ≡ z
+          → List·Memᴰ x (pick z [] (record { reason = reason; detail = letterDetail reason b; offset = i + 1 } ∷ [])) → NoteIn s x
       go true e q = absurd (List·Memᴰ·not-nil q)
       go false e q =
           let t : Taken n used (length (drop i s)) = w .taken in
           rw (List·Memᴰ·eq-of-singleton q)
-          (record { reason-in = omega (arith, w .small); detail-in = λ bytes. letter-le reason b (letter-in bytes i b (w .named (eqb-false reason 0 e))); offset-in = omega (arith, length-drop i s) })
+          (record {
+            reason-in = omega (arith, w .small);
+            detail-in = λ bytes. letter-le reason b (letter-in bytes i b (w .named (eqb-false reason reasons.none e)));
+            offset-in = omega (arith, length-drop i s);
+          })
 
   -- what the letters of the text from i on give
   record Lettered (d : Decoded) : Type 0 where
@@ -260,15 +266,8 @@ module _ (m : Mode) (s : List ℕ) (h : 0 < length s) where
       by-verdict m s (λ r bs. Within s r)
       (λ _. extent-within s K.String (d .stop) (omega (arith, b .bytes-in)) (b .upto) 0 (length (d .bytes)) (length (literalNotes m d)) (omega (arith, b .bytes-in))
       (omega (arith, b .notes-in)))
-      (λ _. record {
-        some = omega (arith, b .bytes-in);
-        ends = end-in s (d .ending) (d .stop) (b .upto);
-        value-in = omega arith;
-        precision-in = omega arith;
-        reports-in = omega (arith, b .notes-in);
-        reason-in = reason-le m d (b .reason);
-        detail-in = λ bytes. omega (arith, lettered .detail bytes);
-      })
+      (λ _. illegal-within s _ _ _ _ (omega (arith, b .bytes-in)) (end-in s (d .ending) (d .stop) (b .upto)) (omega (arith, b .notes-in))
+      (reason-le m d (b .reason)) (λ bytes. omega (arith, lettered .detail bytes)))
 
   -- every report of it
   pub notes-in : (x : Note) → List·Memᴰ x (stringNotes m s) → NoteIn s x
@@ -308,7 +307,7 @@ module _ (m : Mode) (s : List ℕ) (h : 0 < length s) (b : Boundary s 0) where
     stop-in : (e : End) → Ended m (drop i s) e (p - i) → p ≤ length s
     stop-in e u = omega (arith, u .upto, length-drop i s)
 
-    stop-boundary : (e : End) → Ended m (drop i s) e (p - i) → (endReason e ≡ 9 → ⊥) → Boundary s p
+    stop-boundary : (e : End) → Ended m (drop i s) e (p - i) → (endReason e ≡ reasons.unknownEscape → ⊥) → Boundary s p
     stop-boundary e u n =
         let q : i + (p - i) ≡ p = omega arith in
         rw q at (clean-boundary i (p - i) (omega (arith, stop-in e u)) (u .clean n))
@@ -320,8 +319,8 @@ module _ (m : Mode) (s : List ℕ) (h : 0 < length s) (b : Boundary s 0) where
     end-boundary end.Cut u = stop-boundary end.Cut u (λ z. omega arith)
     end-boundary end.Open u = stop-boundary end.Open u (λ z. omega arith)
     end-boundary (end.Bad reason letter) u =
-        pick-case (Boundary s) (eqb reason 9) (λ _. char-boundary p (stop-in (end.Bad reason letter) u))
-        (λ e. stop-boundary (end.Bad reason letter) u (eqb-false reason 9 e))
+        pick-case (Boundary s) (eqb reason reasons.unknownEscape) (λ _. char-boundary p (stop-in (end.Bad reason letter) u))
+        (λ e. stop-boundary (end.Bad reason letter) u (eqb-false reason reasons.unknownEscape e))
 
   -- a literal at the front of a well-formed text ends between characters
   pub string-boundary : Boundary s (lexString m s .len)

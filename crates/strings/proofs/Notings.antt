@@ -16,6 +16,7 @@ use Rattle.base.specs.Runs.{reach}
 use Rattle.base.proofs.Reaches.{rest-is, reach-le, reach-ge}
 use Rattle.base.proofs.Stores.{sets-append}
 use Rattle.token.specs.Place.{placeAt, Walkable}
+use Rattle.token.specs.Reason as reasons
 use Rattle.token.specs.Layout.{reportWidth, reportNumbers, ReportFits}
 use Rattle.token.specs.declared.place.Place.{Place}
 use Rattle.token.proofs.Places.{place-offset}
@@ -36,7 +37,7 @@ use Rattle.strings.proofs.Decodes.{from, Went, went, from-stop, from-go
 
 -- `put_note`
 module _ (text : List ℕ) (to : ℕ) (place : Place) (is : place ≡ placeAt text to) (reason detail : ℕ) where
-  pub escape-fits : (known : Place) → Walkable text known to → reason ≤ 9 → detail ≤ 255 → ReportFits (reportAt place reason detail)
+  pub escape-fits : (known : Place) → Walkable text known to → reason ≤ reasons.unknownEscape → detail ≤ 255 → ReportFits (reportAt place reason detail)
   escape-fits known w r d = report-fits text to place reason detail is (w .inside) (w .short) (omega arith) d
 
   pub escape-put : (letter : ℕ) (out : List ℤ) (p : ℕ) (o : List ℤ) → detail ≡ letterDetail reason letter
@@ -72,10 +73,10 @@ noting-first text start out at f =
     })
 
 -- what `end_report` finds
-ending-notes : (text : List ℕ) (a reason : ℕ) (ns : List Note) → ns ≡ pick (eqb reason 0) [] (noteAtStart reason ∷ [])
-    → (reason ≡ 0 → ⊥) → notesNumbers text a ns ≡ reportNumbers (reportAt (placeAt text a) reason 0)
+ending-notes : (text : List ℕ) (a reason : ℕ) (ns : List Note) → ns ≡ pick (eqb reason reasons.none) [] (noteAtStart reason ∷ [])
+    → (reason ≡ reasons.none → ⊥) → notesNumbers text a ns ≡ reportNumbers (reportAt (placeAt text a) reason 0)
 unfolding notesNumbers reportOf
-ending-notes text a reason ns e n = rw (e, ne-eqb reason 0 n, add-zero a)
+ending-notes text a reason ns e n = rw (e, ne-eqb reason reasons.none n, add-zero a)
 
 module _ (text : List ℕ) (start : Place) (out₀ : List ℤ) (at : ℕ) (s : List ℕ) (out : List ℤ) (i p : ℕ) (place : Place)
     (u : Noting text start out₀ at s out i p place) (e : ℕ) (ee : e ≡ reach inOrdinary s i) where
@@ -107,18 +108,18 @@ module _ (text : List ℕ) (start : Place) (out₀ : List ℤ) (at : ℕ) (s : L
   long = ap length (u .rest) ∙ length-drop (start .offset) text
 
   module _ (q : Step) (is : q ≡ stepOf Tolerant e (pieceOf (drop e s))) where
-    module _ (x : End) (y : ℕ) (h : q ≡ Stop x y) (reason : ℕ) (er : endNotes x ≡ pick (eqb reason 0) [] (noteAtStart reason ∷ [])) where
+    module _ (x : End) (y : ℕ) (h : q ≡ Stop x y) (reason : ℕ) (er : endNotes x ≡ pick (eqb reason reasons.none) [] (noteAtStart reason ∷ [])) where
       last-left : literalNotes Tolerant (from Tolerant s e) ≡ endNotes x
       unfolding literalNotes
       last-left = ap (literalNotes Tolerant) (from-stop Tolerant s e q is x y h)
 
-      pub noting-none : reason ≡ 0 → out ≡ sets out₀ at (stringNumbers Tolerant text (start .offset))
+      pub noting-none : reason ≡ reasons.none → out ≡ sets out₀ at (stringNumbers Tolerant text (start .offset))
       unfolding notesNumbers
       noting-none z =
-          let n : literalNotes Tolerant (from Tolerant s e) ≡ [] = last-left ∙ er ∙ rw (eq-eqb reason 0 z) in
+          let n : literalNotes Tolerant (from Tolerant s e) ≡ [] = last-left ∙ er ∙ rw (eq-eqb reason reasons.none z) in
           sym (ran .is ∙ ap (λ (ns : List Note). sets out p (notesNumbers text (start .offset) ns)) n)
 
-      module _ (n : reason ≡ 0 → ⊥) where
+      module _ (n : reason ≡ reasons.none → ⊥) where
         end-numbers : notesNumbers text (start .offset) (literalNotes Tolerant (from Tolerant s e)) ≡ reportNumbers (reportAt start reason 0)
         end-numbers =
             ap (notesNumbers text (start .offset)) last-left ∙ ending-notes text (start .offset) reason (endNotes x) er n
@@ -127,7 +128,7 @@ module _ (text : List ℕ) (start : Place) (out₀ : List ℤ) (at : ℕ) (s : L
         pub end-room : p + reportWidth ≤ length out
         end-room = let v = ran in omega (arith, ap length end-numbers, v .room, v .same)
 
-        pub end-fits : reason ≤ 20 → ReportFits (reportAt start reason 0)
+        pub end-fits : reason ≤ reasons.last → ReportFits (reportAt start reason 0)
         end-fits l =
             let f = u .fit in
             report-fits text (start .offset) start reason 0 (f .true-place) (omega (arith, f .inside)) (f .short) l (omega arith)
@@ -155,10 +156,11 @@ module _ (text : List ℕ) (start : Place) (out₀ : List ℤ) (at : ℕ) (s : L
       text-less = omega (arith, in-text, w .taken .some, run-ge)
 
       -- a step without a report
-      pub noting-go : reason ≡ 0 → Noting text start out₀ at s out (e + used) p place
+      pub noting-go : reason ≡ reasons.none → Noting text start out₀ at s out (e + used) p place
       unfolding stepNotes
       noting-go z =
-          let l : literalNotes Tolerant (from Tolerant s e) ≡ literalNotes Tolerant (from Tolerant s (e + used)) = step-left ∙ rw (eq-eqb reason 0 z) in
+          let l : literalNotes Tolerant (from Tolerant s e) ≡ literalNotes Tolerant (from Tolerant s (e + used)) =
+          step-left ∙ rw (eq-eqb reason reasons.none z) in
           let v = ran in
           record {
             fit = u .fit;
@@ -172,7 +174,7 @@ module _ (text : List ℕ) (start : Place) (out₀ : List ℤ) (at : ℕ) (s : L
           }
 
       -- a step with one
-      module _ (z : reason ≡ 0 → ⊥) where
+      module _ (z : reason ≡ reasons.none → ⊥) where
         to-in : start .offset + e + 1 ≤ length text
         to-in = omega (arith, in-text, w .taken .some, long, u .fit .inside)
 
@@ -185,13 +187,13 @@ module _ (text : List ℕ) (start : Place) (out₀ : List ℤ) (at : ℕ) (s : L
         pub note-walks : Walkable text place (start .offset + e + 1)
         note-walks = let v = ran in record { true-place = u .known; forward = omega (arith, v .behind); inside = to-in; short = u .fit .short }
 
-        pub note-small : reason ≤ 9
+        pub note-small : reason ≤ reasons.unknownEscape
         note-small = w .small
 
         step-numbers : notesNumbers text (start .offset) (literalNotes Tolerant (from Tolerant s e))
             ≡ reportNumbers (reportAt (placeAt text (start .offset + e + 1)) reason (letterDetail reason b)) ++ notesNumbers text (start .offset) (literalNotes Tolerant (from Tolerant s (e + used)))
         unfolding notesNumbers reportOf stepNotes
-        step-numbers = ap (notesNumbers text (start .offset)) step-left ∙ rw (ne-eqb reason 0 z, ← add-assoc (start .offset) e 1)
+        step-numbers = ap (notesNumbers text (start .offset)) step-left ∙ rw (ne-eqb reason reasons.none z, ← add-assoc (start .offset) e 1)
 
         step-room : p + reportWidth + length (notesNumbers text (start .offset) (literalNotes Tolerant (from Tolerant s (e + used)))) ≤ length out₀
         step-room = let v = ran in omega (arith, ap length step-numbers, v .room)

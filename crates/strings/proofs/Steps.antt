@@ -17,6 +17,7 @@ use Rattle.base.specs.Runs.{reach}
 use Rattle.base.proofs.Reaches.{rest-is, reach-step, reach-stop, reach-end}
 use Rattle.utf8.specs.State.{push, pushAll}
 use Rattle.utf8.specs.declared.state.State.{State}
+use Rattle.token.specs.Reason as reasons
 use Rattle.lexeme.specs.declared.Mode.{Mode}
 use Rattle.lexeme.specs.declared.Mode.the-variants.{Strict, Tolerant}
 use Rattle.strings.specs.Piece.{pieceOf}
@@ -33,7 +34,7 @@ module _ (m : Mode) (i : ℕ) (s : List ℕ) (q : Piece) (is : q ≡ pieceOf (ta
   here : q ≡ pieceOf (drop i s)
   here = rw (rest-is s i) at is
 
-  pub step-bytes : (n a b c d used : ℕ) → q ≡ piece.Bytes n a b c d used → Go n a b c d used 0 ≡ stepOf m i (pieceOf (drop i s))
+  pub step-bytes : (n a b c d used : ℕ) → q ≡ piece.Bytes n a b c d used → Go n a b c d used reasons.none ≡ stepOf m i (pieceOf (drop i s))
   unfolding stepOf
   step-bytes n a b c d used e = rw (← here, e)
 
@@ -76,11 +77,11 @@ bad-fits s i q reason letter used h f e k =
     omega (arith, u .bytes .left, length-drop i s)
 
 -- `report_count`
-pub count-none : (reason : ℕ) → reason ≡ 0 → _≡_ {A = ℕ} 0 (pick (eqb reason 0) 0 1)
-count-none reason e = simp (eq-eqb reason 0 e)
+pub count-none : (reason : ℕ) → reason ≡ reasons.none → _≡_ {A = ℕ} 0 (pick (eqb reason reasons.none) 0 1)
+count-none reason e = simp (eq-eqb reason reasons.none e)
 
-pub count-one : (reason : ℕ) → (reason ≡ 0 → ⊥) → _≡_ {A = ℕ} 1 (pick (eqb reason 0) 0 1)
-count-one reason e = simp (ne-eqb reason 0 e)
+pub count-one : (reason : ℕ) → (reason ≡ reasons.none → ⊥) → _≡_ {A = ℕ} 1 (pick (eqb reason reasons.none) 0 1)
+count-one reason e = simp (ne-eqb reason reasons.none e)
 
 -- `feed`
 module _ (t : State) (n a b c d : ℕ) where

@@ -22,6 +22,7 @@ use Rattle.utf8.specs.Grammar.{Octets}
 use Rattle.utf8.specs.State.{fresh, pushAll}
 use Rattle.utf8.specs.declared.state.State.{State}
 use Rattle.utf8.proofs.States.{push-append, octets-fed}
+use Rattle.token.specs.Reason as reasons
 use Rattle.lexeme.specs.Lexeme.{Note}
 use Rattle.lexeme.specs.declared.Mode.{Mode}
 use Rattle.lexeme.specs.declared.Mode.the-variants.{Strict}
@@ -50,16 +51,16 @@ length-one : (x : Bool) (r : Note) → length (pick x [] (r ∷ [])) ≡ pick x 
 length-one true r = refl
 length-one false r = refl
 
-pub notes-count : (reason letter at : ℕ) → length (stepNotes reason letter at) ≡ pick (eqb reason 0) 0 1
+pub notes-count : (reason letter at : ℕ) → length (stepNotes reason letter at) ≡ pick (eqb reason reasons.none) 0 1
 unfolding stepNotes
-notes-count reason letter at = length-one (eqb reason 0) (record { reason = reason; detail = letterDetail reason letter; offset = at + 1 })
+notes-count reason letter at = length-one (eqb reason reasons.none) (record { reason = reason; detail = letterDetail reason letter; offset = at + 1 })
 
 count-le : (x : Bool) → pick x 0 1 ≤ 1
 count-le true = lit≤ tt
 count-le false = lit≤ tt
 
 pub notes-le : (reason letter at : ℕ) → length (stepNotes reason letter at) ≤ 1
-notes-le reason letter at = rw (notes-count reason letter at) (count-le (eqb reason 0))
+notes-le reason letter at = rw (notes-count reason letter at) (count-le (eqb reason reasons.none))
 
 measured-prepend : (c r : ℕ) (t : State) (bs : List ℕ) (ns : List Note) (d : Decoded)
     → measured c r t (prepend bs ns d) ≡ measured (c + length bs) (r + length ns) (pushAll t bs) d
@@ -130,8 +131,8 @@ module _ (m : Mode) (s : List ℕ) (i count reports : ℕ) (state : State) (u : 
       pub count-fits : length s < 2 ^ 64 → Fits w64 (count + size + n)
       count-fits l = let v = ran in let t = bytes in omega (arith, length-drop e s)
 
-      pub reports-fits : length s < 2 ^ 64 → (k : ℕ) → k ≡ pick (eqb reason 0) 0 1 → Fits w64 (reports + k)
-      reports-fits l k f = let v = ran in let t = bytes in omega (arith, length-drop e s, count-le (eqb reason 0))
+      pub reports-fits : length s < 2 ^ 64 → (k : ℕ) → k ≡ pick (eqb reason reasons.none) 0 1 → Fits w64 (reports + k)
+      reports-fits l k f = let v = ran in let t = bytes in omega (arith, length-drop e s, count-le (eqb reason reasons.none))
 
       pub offset-fits : length s < 2 ^ 64 → Fits w64 (e + used)
       offset-fits l = let v = ran in let t = bytes in omega (arith, length-drop e s)
@@ -139,7 +140,7 @@ module _ (m : Mode) (s : List ℕ) (i count reports : ℕ) (state : State) (u : 
       pub offset-less : length s - (e + used) < length s - i
       offset-less = let v = ran in let t = bytes in omega (arith, length-drop e s, v .inside, part .0 .later)
 
-      pub measuring-go : (t : State) (k : ℕ) → t ≡ pushAll state (take n (a ∷ b ∷ c ∷ d ∷ [])) → k ≡ pick (eqb reason 0) 0 1
+      pub measuring-go : (t : State) (k : ℕ) → t ≡ pushAll state (take n (a ∷ b ∷ c ∷ d ∷ [])) → k ≡ pick (eqb reason reasons.none) 0 1
           → Measuring m s (e + used) (count + size + n) (reports + k) t
       measuring-go t k et ek =
           let f : Taken n used (length (drop e s)) = bytes in
@@ -149,7 +150,7 @@ module _ (m : Mode) (s : List ℕ) (i count reports : ℕ) (state : State) (u : 
           record {
             inside = omega (arith, length-drop e s);
             room = omega arith;
-            room′ = omega (arith, count-le (eqb reason 0));
+            room′ = omega (arith, count-le (eqb reason reasons.none));
             settled = rw et (settled state bs (u .settled));
             is =
                 v .is

@@ -6,6 +6,7 @@ use lib.ListN.{length, take}
 use Rattle.base.specs.Choice.{pick}
 use Rattle.utf8.specs.State.{pushAll}
 use Rattle.utf8.specs.declared.state.State.{State}
+use Rattle.token.specs.Reason as reasons
 use Rattle.lexeme.specs.Lexeme.{Note}
 use Rattle.lexeme.specs.declared.Mode.{Mode}
 use Rattle.lexeme.specs.declared.Mode.the-variants.{Strict, Tolerant}
@@ -28,7 +29,7 @@ pub record Decoded : Type 0 where
 -- What a mode makes of a piece at an offset. Document 01: "Tolerant strings leave an unescaped newline for the next token"; "A bad escape is
 -- reported at its letter and kept as backslash and letter"; "A backslash at the end is dropped"
 unfoldable pub stepOf : Mode → ℕ → Piece → Step
-stepOf m at (piece.Bytes n a b c d used) = Go n a b c d used 0
+stepOf m at (piece.Bytes n a b c d used) = Go n a b c d used reasons.none
 stepOf Strict at (piece.Bad reason letter used) = Stop (end.Bad reason letter) (at + used)
 stepOf Tolerant at (piece.Bad reason letter used) = Go 2 0x5C letter 0 0 used reason
 stepOf m at piece.Close = Stop end.Closed (at + 1)
@@ -39,18 +40,22 @@ stepOf m at piece.Open = Stop end.Open at
 
 -- "9 unknown escape (detail: its byte)"
 unfoldable pub letterDetail : ℕ → ℕ → ℕ
-letterDetail reason letter = pick (eqb reason 9) letter 0
+letterDetail reason letter = pick (eqb reason reasons.unknownEscape) letter 0
 
--- the report of a bad escape whose backslash stands at the offset, or none where the reason is 0
+-- the report of a bad escape whose backslash stands at the offset, or none where there is no reason
 unfoldable pub stepNotes : ℕ → ℕ → ℕ → List Note
-stepNotes reason letter at = pick (eqb reason 0) [] (record { reason = reason; detail = letterDetail reason letter; offset = at + 1 } ∷ [])
+stepNotes reason letter at =
+    pick (eqb reason reasons.none) [] (record { reason = reason; detail = letterDetail reason letter; offset = at + 1 } ∷ [])
 
+-- what a step gives, before what the rest gives
 abbrev pub prepend : List ℕ → List Note → Decoded → Decoded
 prepend bs ns d = record { bytes = bs ++ d .bytes; notes = ns ++ d .notes; stop = d .stop; ending = d .ending }
 
+-- a literal of which nothing is left
 abbrev pub finish : End → ℕ → Decoded
 finish e p = record { bytes = []; notes = []; stop = p; ending = e }
 
+-- a step goes on with what f gives after the bytes of it that are left, or ends the literal
 abbrev pub follow : Step → ℕ → (ℕ → Decoded) → Decoded
 follow (Go n a b c d used reason) at f = prepend (take n (a ∷ b ∷ c ∷ d ∷ [])) (stepNotes reason b at) (f (used - 1))
 follow (Stop e p) at f = finish e p

@@ -4,13 +4,13 @@ use mathlib.Core.Bool.{Bool}
 use mathlib.Core.List.{List, [], _∷_, _++_}
 use Prim.Native.Nat.{ℕ}
 use lib.Dec.{eqb}
-use lib.IntN.{pos}
 use lib.ListN.{length, drop}
 use Rattle.base.specs.Choice.{pick}
 use Rattle.utf8.specs.Grammar.{validTo}
 use Rattle.utf8.specs.Check.{charEnd}
+use Rattle.token.specs.Reason as reasons
 use Rattle.token.specs.declared.kind.TokenKind.the-variants as K
-use Rattle.lexeme.specs.Lexeme.{extent, Note, noteAtStart}
+use Rattle.lexeme.specs.Lexeme.{extent, illegalReported, Note, noteAtStart}
 use Rattle.lexeme.specs.declared.Lexeme.{Lexeme}
 use Rattle.lexeme.specs.declared.Mode.{Mode}
 use Rattle.lexeme.specs.declared.Mode.the-variants.{Strict, Tolerant}
@@ -26,18 +26,22 @@ wellFormed l = eqb (validTo l) (length l)
 unfoldable pub literalOf : Mode → List ℕ → Decoded
 literalOf m s = decode m 1 0 (drop 1 s)
 
--- the reason that an ending gives a strict literal, or 0: 3 newline in string, 4 open escape, 10 open string, or the bad escape's
+-- the reason that an ending gives a strict literal, or none: "newline in string", "open escape", "open string", or the bad escape's
 unfoldable pub endReason : End → ℕ
-endReason end.Closed = 0
-endReason end.AtNewline = 3
-endReason end.Cut = 4
-endReason end.Open = 10
+endReason end.Closed = reasons.none
+endReason end.AtNewline = reasons.newlineInString
+endReason end.Cut = reasons.openEscape
+endReason end.Open = reasons.openString
 endReason (end.Bad reason letter) = reason
 
--- the reason that makes a literal Illegal, or 0: "11 string not UTF-8"
+-- `string_token`: "string not UTF-8", or no reason
+abbrev pub bytesReason : Decoded → ℕ
+bytesReason d = pick (wellFormed (d .bytes)) reasons.none reasons.stringNotUtf8
+
+-- the reason that makes a literal Illegal, or none: strict, its ending's before that of its bytes
 unfoldable pub literalReason : Mode → Decoded → ℕ
-literalReason Strict d = pick (eqb (endReason (d .ending)) 0) (pick (wellFormed (d .bytes)) 0 11) (endReason (d .ending))
-literalReason Tolerant d = pick (wellFormed (d .bytes)) 0 11
+literalReason Strict d = pick (eqb (endReason (d .ending)) reasons.none) (bytesReason d) (endReason (d .ending))
+literalReason Tolerant d = bytesReason d
 
 -- the detail of a bad escape that ends a literal
 unfoldable pub endDetail : End → ℕ
@@ -47,20 +51,20 @@ endDetail end.Cut = 0
 endDetail end.Open = 0
 endDetail (end.Bad reason letter) = letterDetail reason letter
 
--- where an ending leaves the token's end: an unknown escape's after the character that its letter begins
+-- where an ending leaves the token's end: "If the Rust stops inside a character ..; ours ends after that character", which only an unknown escape can
 unfoldable pub endOf : List ℕ → End → ℕ → ℕ
 endOf s end.Closed stop = stop
 endOf s end.AtNewline stop = stop
 endOf s end.Cut stop = stop
 endOf s end.Open stop = stop
-endOf s (end.Bad reason letter) stop = pick (eqb reason 9) (charEnd s stop) stop
+endOf s (end.Bad reason letter) stop = pick (eqb reason reasons.unknownEscape) (charEnd s stop) stop
 
--- the tolerant report of an ending, at the token's start: 19 string ended at newline, 4 open escape, 10 open string
+-- the tolerant report of an ending, at the token's start: "string ended at newline", "open escape", "open string"
 unfoldable pub endNotes : End → List Note
 endNotes end.Closed = []
-endNotes end.AtNewline = noteAtStart 19 ∷ []
-endNotes end.Cut = noteAtStart 4 ∷ []
-endNotes end.Open = noteAtStart 10 ∷ []
+endNotes end.AtNewline = noteAtStart reasons.stringEndedAtNewline ∷ []
+endNotes end.Cut = noteAtStart reasons.openEscape ∷ []
+endNotes end.Open = noteAtStart reasons.openString ∷ []
 endNotes (end.Bad reason letter) = []
 
 -- the reports of a literal, in order; a strict one has none
@@ -68,15 +72,11 @@ unfoldable pub literalNotes : Mode → Decoded → List Note
 literalNotes Strict d = []
 literalNotes Tolerant d = d .notes ++ endNotes (d .ending)
 
--- an Illegal literal, with its reports
-abbrev pub illegalLiteral : ℕ → ℕ → ℕ → ℕ → Lexeme
-illegalLiteral r d n reports =
-    record { kind = K.Illegal; reason = r; detail = d; len = n; value = n; size = 0; precision = 0; digits = 0; nanos = pos 0; reports = reports }
-
+-- a String, or Illegal for its reason; with its reports in either case
 abbrev pub literalToken : Mode → List ℕ → Decoded → Lexeme
 literalToken m s d =
-    pick (eqb (literalReason m d) 0) (extent K.String (d .stop) 0 (length (d .bytes)) (length (literalNotes m d)))
-    (illegalLiteral (literalReason m d) (endDetail (d .ending)) (endOf s (d .ending) (d .stop)) (length (literalNotes m d)))
+    pick (eqb (literalReason m d) reasons.none) (extent K.String (d .stop) 0 (length (d .bytes)) (length (literalNotes m d)))
+    (illegalReported (literalReason m d) (endDetail (d .ending)) (endOf s (d .ending) (d .stop)) (length (literalNotes m d)))
 
 -- the string literal at the front of s, which begins with a quote
 unfoldable pub lexString : Mode → List ℕ → Lexeme
@@ -91,7 +91,7 @@ pub record Sized (m : Mode) (s : List ℕ) (len size : ℕ) : Type 0 where
 
 -- the bytes that go to the string buffer: a String's value; an Illegal literal has none
 unfoldable pub stringBytes : Mode → List ℕ → List ℕ
-stringBytes m s = pick (eqb (literalReason m (literalOf m s)) 0) (literalOf m s .bytes) []
+stringBytes m s = pick (eqb (literalReason m (literalOf m s)) reasons.none) (literalOf m s .bytes) []
 
 -- its reports
 unfoldable pub stringNotes : Mode → List ℕ → List Note

@@ -7,6 +7,7 @@ use lib.ListN.{length, drop}
 use Rattle.base.specs.Choice.{pick}
 use Rattle.base.specs.Bytes.{byte, within}
 use Rattle.utf8.specs.Character.{isScalar, encodeOf}
+use Rattle.token.specs.Reason as reasons
 use Rattle.strings.specs.declared.piece.Piece.{Piece}
 use Rattle.strings.specs.declared.piece.Piece.the-variants as piece
 
@@ -18,6 +19,7 @@ hexOf c = pick (within 48 57 c) (c - 48) (pick (within 65 70 c) (c - 55) (pick (
 unfoldable pub octOf : ℕ → ℕ
 octOf c = pick (within 48 55 c) (c - 48) 8
 
+-- what a list of pairs gives for e: the second of the first pair that begins with it, and 0 where none does
 abbrev pub look : List (ℕ × ℕ) → ℕ → ℕ
 look [] e = 0
 look (p ∷ ps) e = pick (eqb e (p .0)) (p .1) (look ps e)
@@ -37,16 +39,17 @@ simpleOf e = look letters e
 abbrev pub bytesPiece : List ℕ → ℕ → Piece
 bytesPiece l used = piece.Bytes (length l) (byte l 0) (byte l 1) (byte l 2) (byte l 3) used
 
--- `\x` and two digits, the list standing at the backslash. Past the end `byte` gives 0, which is no digit
+-- `\x` and two digits, by `read_hex_byte`, the list standing at the backslash. Past the end `byte` gives 0, which is no digit
 unfoldable pub hexPiece : List ℕ → Piece
 hexPiece l =
-    pick (ltb (hexOf (byte l 2)) 16 && ltb (hexOf (byte l 3)) 16) (piece.Bytes 1 (hexOf (byte l 2) * 16 + hexOf (byte l 3)) 0 0 0 4) (piece.Bad 5 0x78 2)
+    pick (ltb (hexOf (byte l 2)) 16 && ltb (hexOf (byte l 3)) 16) (piece.Bytes 1 (hexOf (byte l 2) * 16 + hexOf (byte l 3)) 0 0 0 4)
+    (piece.Bad reasons.badX 0x78 2)
 
--- a digit from 0 to 3 and two octal digits
+-- a digit from 0 to 3 and two octal digits, by `read_oct_rest`
 unfoldable pub octPiece : ℕ → List ℕ → Piece
 octPiece first l =
     pick (ltb (octOf (byte l 2)) 8 && ltb (octOf (byte l 3)) 8) (piece.Bytes 1 ((first - 48) * 64 + octOf (byte l 2) * 8 + octOf (byte l 3)) 0 0 0 4)
-    (piece.Bad 6 first 2)
+    (piece.Bad reasons.badOctal first 2)
 
 -- how many of the first n bytes are digits before the first that is none
 unfoldable pub hexCount : ℕ → List ℕ → ℕ
@@ -60,25 +63,25 @@ hexValue zero r l = r
 hexValue (suc n) r [] = r
 hexValue (suc n) r (x ∷ l) = hexValue n (r * 16 + hexOf x) l
 
--- `\u` or `\U` with n digits, l being the text after the letter. Document 01: "good digits already consumed are lost, unless too few bytes remain:
--- then none is consumed"
+-- `\u` or `\U` with n digits, by `read_hex_rune`, l being the text after the letter. Document 01: "good digits already consumed are lost, unless too
+-- few bytes remain: then none is consumed"
 unfoldable pub codePiece : ℕ → ℕ → ℕ → List ℕ → Piece
 codePiece n reason letter l =
     pick (ltb (length l) n) (piece.Bad reason letter 2)
     (pick (ltb (hexCount n l) n) (piece.Bad reason letter (hexCount n l + 2))
     (pick (isScalar (hexValue n 0 l)) (bytesPiece (encodeOf (hexValue n 0 l)) (n + 2)) (piece.Bad reason letter (n + 2))))
 
--- a backslash and one byte more; any other letter is reason 9
+-- a backslash and one byte more; any other letter is an "unknown escape"
 unfoldable pub escapePiece : List ℕ → Piece
 escapePiece l =
     pick (eqb (simpleOf (byte l 1)) 0)
     (pick (eqb (byte l 1) 0x78) (hexPiece l)
-    (pick (eqb (byte l 1) 0x75) (codePiece 4 7 0x75 (drop 2 l))
-    (pick (eqb (byte l 1) 0x55) (codePiece 8 8 0x55 (drop 2 l))
-    (pick (within 48 51 (byte l 1)) (octPiece (byte l 1) l) (piece.Bad 9 (byte l 1) 2)))))
+    (pick (eqb (byte l 1) 0x75) (codePiece 4 reasons.badU 0x75 (drop 2 l))
+    (pick (eqb (byte l 1) 0x55) (codePiece 8 reasons.badCapitalU 0x55 (drop 2 l))
+    (pick (within 48 51 (byte l 1)) (octPiece (byte l 1) l) (piece.Bad reasons.unknownEscape (byte l 1) 2)))))
     (piece.Bytes 1 (simpleOf (byte l 1)) 0 0 0 2)
 
--- what stands at the front of the rest of a literal
+-- what stands at the front of the rest of a literal, by the loop of `lex_string`
 unfoldable pub pieceOf : List ℕ → Piece
 pieceOf [] = piece.Open
 pieceOf (c ∷ l) =

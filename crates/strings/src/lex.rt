@@ -18,17 +18,18 @@ use crate::literal::step_at;
 use lexeme::Lexeme;
 use lexeme::Mode;
 use token::kind::TokenKind;
+use token::reason;
 use utf8::check::char_end;
 
-// The reason that an ending gives a strict literal, or 0.
+// The reason that an ending gives a strict literal, or none.
 fn end_reason(end: End) -> usize
     ensures { λ r. ⌜ r ≡ endReason end ⌝ }
 {
     match end {
-        End::Closed => 0,
-        End::AtNewline => 3,
-        End::Cut => 4,
-        End::Open => 10,
+        End::Closed => reason::NONE,
+        End::AtNewline => reason::NEWLINE_IN_STRING,
+        End::Cut => reason::OPEN_ESCAPE,
+        End::Open => reason::OPEN_STRING,
         End::Bad { reason, letter: _ } => reason,
     }
 }
@@ -37,7 +38,7 @@ fn end_reason(end: End) -> usize
 pub fn letter_detail(reason: usize, letter: u8) -> usize
     ensures { λ r. ⌜ (r ≡ letterDetail reason letter) × (r ≤ 255) ⌝ }
 {
-    if reason == 9 {
+    if reason == reason::UNKNOWN_ESCAPE {
         return letter as usize;
     }
     0
@@ -66,7 +67,7 @@ fn end_of(s: &[u8], end: End, stop: usize) -> usize
         End::Cut => stop,
         End::Open => stop,
         End::Bad { reason, letter: _ } => {
-            if reason == 9 {
+            if reason == reason::UNKNOWN_ESCAPE {
                 return char_end(s, stop);
             }
             stop
@@ -90,6 +91,7 @@ fn end_reports(end: End) -> usize
     }
 }
 
+// The literal read strictly: its ending's reason goes before that of its bytes.
 fn lex_strict(s: &[u8]) -> Lexeme
     requires { ⌜ (0 < length (now s)) × Octets (now s) ⌝ }
     ensures { λ r. ⌜ r ≡ lexString M.Strict (now (s .entry)) ⌝ }
@@ -100,15 +102,16 @@ fn lex_strict(s: &[u8]) -> Lexeme
     let state = m.state;
     let need = state.need;
     let reason = end_reason(end);
-    if reason != 0 {
+    if reason != reason::NONE {
         return lexeme::illegal(reason, end_detail(end), end_of(s, end, stop));
     }
     if need != 0 {
-        return lexeme::illegal(11, 0, stop);
+        return lexeme::illegal(reason::STRING_NOT_UTF8, 0, stop);
     }
     lexeme::extent(TokenKind::String, stop, 0, m.count, 0)
 }
 
+// The literal read tolerantly: an ending is reported.
 fn lex_tolerant(s: &[u8]) -> Lexeme
     requires { ⌜ (0 < length (now s)) × Octets (now s) ⌝ }
     ensures { λ r. ⌜ r ≡ lexString M.Tolerant (now (s .entry)) ⌝ }
@@ -122,18 +125,7 @@ fn lex_tolerant(s: &[u8]) -> Lexeme
     if need == 0 {
         return lexeme::extent(TokenKind::String, stop, 0, m.count, reports);
     }
-    Lexeme {
-        kind: TokenKind::Illegal,
-        reason: 11,
-        detail: 0,
-        len: stop,
-        value: stop,
-        size: 0,
-        precision: 0,
-        digits: 0,
-        nanos: 0,
-        reports,
-    }
+    lexeme::illegal_reported(reason::STRING_NOT_UTF8, 0, stop, reports)
 }
 
 // The string literal at the front of a slice.

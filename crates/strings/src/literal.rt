@@ -12,6 +12,7 @@ ghost use Rattle.base.specs.Runs.{run, reach};
 ghost use Rattle.base.specs.Blocks.{Ahead};
 ghost use Rattle.utf8.specs.Grammar.{Octets};
 ghost use Rattle.utf8.specs.State.{fresh, pushAll};
+ghost use Rattle.token.specs.Reason as reasons;
 ghost use Rattle.strings.specs.Piece.{pieceOf};
 ghost use Rattle.strings.specs.Plain.{isOrdinary, inOrdinary, simpleAt, simpleBytes, Spells};
 ghost use Rattle.strings.specs.Decode.{stepOf, measured};
@@ -22,6 +23,7 @@ use crate::piece::next_piece;
 use base::find::WINDOW;
 use base::find::earlier;
 use lexeme::Mode;
+use token::reason;
 use utf8::check::is_inside;
 use utf8::state::State;
 
@@ -36,7 +38,7 @@ pub enum End {
 
 // One step, with what the mode makes of it.
 pub enum Step {
-    // The first `n` of a, b, c, d are decoded, from `used` bytes of text. `reason` is 0, or that of a report, whose letter is b.
+    // The first `n` of a, b, c, d are decoded, from `used` bytes of text. `reason` is none, or that of a report, whose letter is b.
     Go {
         n: usize,
         a: u8,
@@ -96,7 +98,7 @@ pub fn step_at(s: &[u8], i: usize, mode: Mode) -> Step
             c,
             d,
             used,
-            reason: 0,
+            reason: reason::NONE,
         },
         Piece::Bad {
             reason,
@@ -172,9 +174,9 @@ pub fn put(out: &mut [u8], p: usize, n: usize, a: u8, b: u8, c: u8, d: u8)
 
 // How many reports a step makes.
 fn report_count(reason: usize) -> usize
-    ensures { λ r. ⌜ r ≡ pick (eqb reason 0) 0 1 ⌝ }
+    ensures { λ r. ⌜ r ≡ pick (eqb reason reasons.none) 0 1 ⌝ }
 {
-    if reason == 0 {
+    if reason == reason::NONE {
         return 0;
     }
     1

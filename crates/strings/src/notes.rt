@@ -7,6 +7,7 @@ ghost use lib.ListN.{length};
 ghost use lib.Seq.{sets};
 ghost use Rattle.base.specs.Choice.{pick};
 ghost use Rattle.token.specs.Place.{placeAt, Walkable};
+ghost use Rattle.token.specs.Reason as reasons;
 ghost use Rattle.token.specs.Layout.{reportWidth, reportNumbers};
 ghost use Rattle.lexeme.specs.Lexeme.{noteAtStart};
 ghost use Rattle.lexeme.specs.Reports.{reportAt};
@@ -24,20 +25,21 @@ use lexeme::put_report;
 use token::layout::REPORT_WIDTH;
 use token::place::Place;
 use token::place::walk;
+use token::reason;
 
-// The reason of the report that a tolerant ending makes, or 0.
+// The reason of the report that a tolerant ending makes, or none.
 fn end_report(end: End) -> usize
-    ensures { λ r. ⌜ (endNotes end ≡ pick (eqb r 0) [] (noteAtStart r ∷ [])) × (r ≤ 20) ⌝ }
+    ensures { λ r. ⌜ (endNotes end ≡ pick (eqb r reasons.none) [] (noteAtStart r ∷ [])) × (r ≤ reasons.last) ⌝ }
 {
     match end {
-        End::Closed => 0,
-        End::AtNewline => 19,
-        End::Cut => 4,
-        End::Open => 10,
+        End::Closed => reason::NONE,
+        End::AtNewline => reason::STRING_ENDED_AT_NEWLINE,
+        End::Cut => reason::OPEN_ESCAPE,
+        End::Open => reason::OPEN_STRING,
         End::Bad {
             reason: _,
             letter: _,
-        } => 0,
+        } => reason::NONE,
     }
 }
 
@@ -51,7 +53,7 @@ fn put_note(
     out: &mut [i64],
     p: usize,
 ) -> Place
-    requires { ⌜ Walkable (now text) from to × (reason ≤ 9) × (p + reportWidth ≤ length (now out)) ⌝ }
+    requires { ⌜ Walkable (now text) from to × (reason ≤ reasons.unknownEscape) × (p + reportWidth ≤ length (now out)) ⌝ }
     ensures { λ r. ⌜ (r ≡ placeAt (now (text .entry)) to) × (now (out .exit) ≡ sets (now (out .entry)) p (reportNumbers (reportAt (placeAt (now (text .entry)) to) reason (letterDetail reason letter)))) ⌝ }
 {
     let place = walk(text, from, to);
@@ -84,7 +86,7 @@ fn put_tolerant_notes(text: &[u8], start: Place, out: &mut [i64], at: usize)
                 reason,
             } => {
                 i = e + used;
-                if reason == 0 {
+                if reason == reason::NONE {
                     continue;
                 }
                 place = put_note(text, place, first + e + 1, reason, b, out, p);
@@ -92,7 +94,7 @@ fn put_tolerant_notes(text: &[u8], start: Place, out: &mut [i64], at: usize)
             }
             Step::Stop { end, stop: _ } => {
                 let reason = end_report(end);
-                if reason == 0 {
+                if reason == reason::NONE {
                     return;
                 }
                 put_report(start, reason, 0, out, p);

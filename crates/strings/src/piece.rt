@@ -7,6 +7,7 @@ ghost use Rattle.strings.specs.Piece.{bytesPiece, hexPiece, octPiece, co
 use crate::digit::hex_val;
 use crate::digit::oct_val;
 use crate::digit::simple;
+use token::reason;
 use utf8::character::encode;
 
 // What stands at the front of the rest of a literal, after the opening quote.
@@ -20,7 +21,7 @@ pub enum Piece {
         d: u8,
         used: usize,
     },
-    // A bad escape: the reason's number, its letter, and how many bytes of text it takes.
+    // A bad escape: the reason, its letter, and how many bytes of text it takes.
     Bad {
         reason: usize,
         letter: u8,
@@ -116,7 +117,7 @@ fn hex_escape(t: &[u8]) -> Piece
     if (h < 16) & (l < 16) {
         return one(h * 16 + l, 4);
     }
-    bad(5, b'x', 2)
+    bad(reason::BAD_X, b'x', 2)
 }
 
 // A backslash, a digit from 0 to 3 and two octal digits.
@@ -129,7 +130,7 @@ fn oct_escape(t: &[u8], first: u8) -> Piece
     if (h < 8) & (l < 8) {
         return one((first - 48) * 64 + h * 8 + l, 4);
     }
-    bad(6, first, 2)
+    bad(reason::BAD_OCTAL, first, 2)
 }
 
 // `\u` or `\U` and n digits. Good digits before a bad one are used up, but none where too few bytes are left.
@@ -170,15 +171,15 @@ fn escape(t: &[u8]) -> Piece
         return hex_escape(t);
     }
     if e == b'u' {
-        return code_escape(t, 4, 7, b'u');
+        return code_escape(t, 4, reason::BAD_U, b'u');
     }
     if e == b'U' {
-        return code_escape(t, 8, 8, b'U');
+        return code_escape(t, 8, reason::BAD_CAPITAL_U, b'U');
     }
     if (b'0' <= e) & (e <= b'3') {
         return oct_escape(t, e);
     }
-    bad(9, e, 2)
+    bad(reason::UNKNOWN_ESCAPE, e, 2)
 }
 
 // The step.

@@ -13,6 +13,7 @@ use mir.Syntax.{w64}
 use mir.Val.{Fits}
 use Rattle.base.proofs.Reaches.{rest-is}
 use Rattle.utf8.specs.Check.{charEnd}
+use Rattle.token.specs.Reason as reasons
 use Rattle.token.specs.declared.kind.TokenKind.the-variants as K
 use Rattle.lexeme.specs.Lexeme.{extent, illegal}
 use Rattle.lexeme.specs.declared.Lexeme.{Lexeme}
@@ -71,7 +72,7 @@ module _ (s : List ℕ) (n : ℕ) (e : n ≡ untilQuotes (take (length s - 3) (d
       unfolding closed
       not-closed = le-ltb (rawSize s + 3) (length s) (omega (arith, size-is))
 
-      pub lex-strict : (end : ℕ) → m ≡ Strict → end ≡ openTripleEnd s → r ≡ illegal 12 0 end → r ≡ lexTripleString m s
+      pub lex-strict : (end : ℕ) → m ≡ Strict → end ≡ openTripleEnd s → r ≡ illegal reasons.openTripleString 0 end → r ≡ lexTripleString m s
       unfolding lexTripleString
       lex-strict end k d w = rw (not-closed, k, ← d) w
 

@@ -17,6 +17,7 @@ use Rattle.base.proofs.Reaches.{reach-ge, reach-le, reach-fails}
 use Rattle.utf8.specs.Grammar.{Boundary}
 use Rattle.utf8.specs.Check.{isTail, inTails, charEnd}
 use Rattle.utf8.proofs.Boundaries.{boundary-at, ascii-boundary}
+use Rattle.token.specs.Reason as reasons
 use Rattle.token.specs.declared.kind.TokenKind.the-variants as K
 use Rattle.lexeme.specs.Lexeme.{extent, Note}
 use Rattle.lexeme.specs.declared.Lexeme.{Lexeme}
@@ -76,7 +77,8 @@ module _ (s : List ℕ) where
 -- ---- the numbers are in bounds
 
 open-within : (m : Mode) (s : List ℕ) → 3 ≤ length s → Within s (openTriple m s)
-open-within Strict s h = illegal-within s 12 0 (openTripleEnd s) (omega (arith, open-ge s h)) (open-le s h) (omega arith) (λ _. omega arith)
+open-within Strict s h =
+    illegal-within s reasons.openTripleString 0 (openTripleEnd s) 0 (omega (arith, open-ge s h)) (open-le s h) (omega arith) (omega arith) (λ _. omega arith)
 open-within Tolerant s h =
     extent-within s K.String (length s) (omega arith) (omega arith) 0 (length (dedent (rawBytes s))) 1
     (omega (arith, value-le s h, raw-le s h)) (omega arith)

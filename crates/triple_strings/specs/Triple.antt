@@ -7,6 +7,7 @@ use lib.ListN.{length, take, drop}
 use Rattle.base.specs.Choice.{pick}
 use Rattle.base.specs.Bytes.{byte}
 use Rattle.utf8.specs.Check.{charEnd}
+use Rattle.token.specs.Reason as reasons
 use Rattle.token.specs.declared.kind.TokenKind.the-variants as K
 use Rattle.lexeme.specs.Lexeme.{extent, illegal, Note, noteAtStart}
 use Rattle.lexeme.specs.declared.Lexeme.{Lexeme}
@@ -39,27 +40,29 @@ closed s = ltb (rawSize s + 3) (length s)
 unfoldable pub openTripleEnd : List ℕ → ℕ
 openTripleEnd s = charEnd s (pick (leb 5 (length s)) (length s - 2) 3)
 
--- "12 open triple string"; the tolerant reader takes all that is left and reports it
+-- "open triple string"; the tolerant reader takes all that is left and reports it
 abbrev pub openTriple : Mode → List ℕ → Lexeme
-openTriple Strict s = illegal 12 0 (openTripleEnd s)
+openTriple Strict s = illegal reasons.openTripleString 0 (openTripleEnd s)
 openTriple Tolerant s = extent K.String (length s) 0 (length (dedent (rawBytes s))) 1
 
 -- the triple-quoted string at the front of s, which begins with three quotes
 unfoldable pub lexTripleString : Mode → List ℕ → Lexeme
 lexTripleString m s = pick (closed s) (extent K.String (rawSize s + 6) 0 (length (dedent (rawBytes s))) 0) (openTriple m s)
 
--- the bytes that go to the string buffer
+-- the bytes of an open one: an Illegal has none
 abbrev pub openBytes : Mode → List ℕ → List ℕ
 openBytes Strict s = []
 openBytes Tolerant s = dedent (rawBytes s)
 
+-- the bytes that go to the string buffer
 unfoldable pub tripleBytes : Mode → List ℕ → List ℕ
 tripleBytes m s = pick (closed s) (dedent (rawBytes s)) (openBytes m s)
 
--- its report, at its start
+-- the report of an open one, at its start
 abbrev pub openNotes : Mode → List Note
 openNotes Strict = []
-openNotes Tolerant = noteAtStart 12 ∷ []
+openNotes Tolerant = noteAtStart reasons.openTripleString ∷ []
 
+-- its reports
 unfoldable pub tripleNotes : Mode → List ℕ → List Note
 tripleNotes m s = pick (closed s) [] (openNotes m)

@@ -11,6 +11,7 @@ use crate::quotes::find_quotes;
 use lexeme::Lexeme;
 use lexeme::Mode;
 use token::kind::TokenKind;
+use token::reason;
 use utf8::check::char_end;
 
 // Where the strict reader leaves an open one: two bytes before the end, not before the content, and after the character there.
@@ -34,7 +35,7 @@ pub fn lex_triple_string(s: &[u8], mode: Mode) -> Lexeme
         return lexeme::extent(TokenKind::String, n + 6, 0, dedent_len(&s[3..e]), 0);
     }
     match mode {
-        Mode::Strict => lexeme::illegal(12, 0, open_triple_end(s)),
+        Mode::Strict => lexeme::illegal(reason::OPEN_TRIPLE_STRING, 0, open_triple_end(s)),
         Mode::Tolerant => lexeme::extent(TokenKind::String, s.len(), 0, dedent_len(&s[3..e]), 1),
     }
 }

@@ -6,6 +6,7 @@ use lib.IntN.{pos}
 use lib.ListN.{length, replicate, length-replicate}
 use lib.Seq.{length-take-le}
 use borrow.Author.Needs.{needs}
+use Rattle.token.specs.Layout.{recordWidth}
 use Rattle.listing.proofs.print_listing.Statement.{statement}
 use Rattle.listing.proofs.print_listing.Tie as tie
 
@@ -29,9 +30,9 @@ fill-requires : tie.Need-fill-requires
 fill-requires c κs =
     record {
       text = c .before .before .before .before .before .pre;
-      tokens = lends 98316 (8193 * 12) (pos 0) (omega arith);
+      tokens = lends (8193 * recordWidth) (8193 * recordWidth) (pos 0) (omega arith);
       strings = lends {A = ℕ} 8192 8192 0 (omega arith);
-      out = lends {A = ℕ} 393264 (8193 * 48) 0 (omega arith);
+      out = lends {A = ℕ} (8193 * 48) (8193 * 48) 0 (omega arith);
     }
 
 array-share-prefix-out : tie.Need-array-share-prefix-out

@@ -4,8 +4,9 @@ use Prim.Native.Nat.{_-_}
 use native.Mathlib.Omega.{arith}
 use lib.ListN.{length}
 use borrow.Author.Needs.{needs}
+use borrow.Author.Tests.{eqb-true, eqb-false}
 use Rattle.limits.specs.Limits.{maxBytesLiteralLength}
-use Rattle.lexeme.specs.declared.Mode.the-variants.{Strict}
+use Rattle.lexer.specs.declared.reading.Reading.the-variants.{Strict}
 use Rattle.lexer.specs.Token.{nextToken}
 use Rattle.reading.specs.Buffers.{recordOf}
 use Rattle.listing_lines.specs.Lines.{lineText, lineNumbers}
@@ -58,29 +59,29 @@ add-size c =
     let w = n .before .loop .inv in
     record { fits = omega (arith, size-is c, line-few w (token-is n), w .few, w .walkable .inside, w .walkable .short) }
 
-number-requires : tie.Need-number-requires Inv-loop μ-loop
-number-requires c κs = search needs
+is-eof-requires : tie.Need-is-eof-requires Inv-loop μ-loop
+is-eof-requires c κs = search needs
 
 returns : tie.Need-returns Inv-loop μ-loop
 returns c =
     let l = c .before .before in
     let n = l .before .before .before in
-    measuring-end (n .before .loop .inv) (token-is n) (size-is l) (sym (c .before .number .ensures) ∙ c .if1 .taken)
+    measuring-end (n .before .loop .inv) (token-is n) (size-is l) (eqb-true _ _ (sym (c .before .is-eof .ensures) ∙ c .if1 .taken))
 
 loop-less : tie.Need-loop-less Inv-loop μ-loop
 loop-less c =
     let l = c .before .before .before in
     let n = l .before .before .before in
-    measuring-less (n .before .loop .inv) (token-is n) (λ z. c .before .if1 .left (c .before .before .number .ensures ∙ z))
+    measuring-less (n .before .loop .inv) (token-is n) (eqb-false _ _ (sym (c .before .before .is-eof .ensures) ∙ c .before .if1 .left))
 
 loop-again : tie.Need-loop-again Inv-loop μ-loop
 loop-again c =
     let l = c .before .before .before in
     let n = l .before .before .before in
-    measuring-turn (n .before .loop .inv) (token-is n) (λ z. c .before .if1 .left (c .before .before .number .ensures ∙ z)) (size-is l)
+    measuring-turn (n .before .loop .inv) (token-is n) (eqb-false _ _ (sym (c .before .before .is-eof .ensures) ∙ c .before .if1 .left)) (size-is l)
 
 pub lines-size-spec : {M : Type 1} → statement M
 lines-size-spec =
     tie.close
     (tie.spec Inv-loop μ-loop default-bytes-limit-requires first-requires loop-holds next-token-requires token-numbers-requires
-    slice-aggregate-line-size line-size-requires add-size number-requires returns loop-less loop-again)
+    slice-aggregate-line-size line-size-requires add-size is-eof-requires returns loop-less loop-again)

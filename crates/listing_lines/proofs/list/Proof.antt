@@ -1,30 +1,16 @@
 -- `list` measures the lines, then reads, and writes the lines of what it has read, or the refusal's. Assumes nothing.
-use mathlib.Core.Path.{_≡_}
-use mathlib.Core.Bool.{false}
-use mathlib.Core.Logic.{⊎-elim}
-use mathlib.Core.List.{[], _∷_}
 use Prim.Native.Nat.{_≤_}
 use native.Mathlib.Omega.{arith}
-use lib.Dec.{eqb}
 use lib.ListN.{length}
-use types.Run.{OneOf, miss}
-use denote.Enum.Declared.{tagOf}
 use Rattle.limits.specs.Limits.{maxBytesLiteralLength}
-use Rattle.lexeme.specs.declared.Mode.the-variants.{Strict}
-use Rattle.reading.specs.Answers.{readTextNumber}
+use Rattle.lexer.specs.declared.reading.Reading.the-variants.{Strict}
 use Rattle.reading.specs.Calls.{ReadsText}
-use Rattle.reading.specs.declared.text.ReadText.{ReadText}
-use Rattle.reading.proofs.text.ReadText.{the-type}
 use Rattle.reading.proofs.Uses.{records-inside}
 use Rattle.listing_lines.specs.Listing.{linesSize}
-use Rattle.listing_lines.proofs.Listings.{answered, rows-are, size-is, tokens-listed, refusal-listed, short-listed}
+use Rattle.listing_lines.proofs.Listings.{rows-are, size-is, tokens-listed, refusal-listed, short-listed}
 use borrow.Author.Needs.{needs}
 use Rattle.listing_lines.proofs.list.Statement.{statement}
 use Rattle.listing_lines.proofs.list.Tie as tie
-
--- no other answer than the first has the number 0
-not-counted : (r : ReadText) → OneOf (1 ∷ 2 ∷ 3 ∷ 4 ∷ 5 ∷ []) (tagOf the-type r) → eqb (readTextNumber r) 0 ≡ false
-not-counted r h = ⊎-elim (λ a. absurd (miss (1 ∷ 2 ∷ 3 ∷ 4 ∷ 5 ∷ []) 0 tt (rw (a .3) at h))) (λ z. z) (answered r)
 
 listing-size-requires : tie.Need-listing-size-requires
 listing-size-requires c κs = search needs
@@ -38,8 +24,8 @@ default-bytes-limit-requires c κs = search needs
 read-text-requires : tie.Need-read-text-requires
 read-text-requires c κs = search needs
 
-enum-known-answer : tie.Need-enum-known-answer
-enum-known-answer c = search needs
+enum-known-count : tie.Need-enum-known-count
+enum-known-count c = search needs
 
 -- where the function begins, seen from the reading
 abbrev entry : tie.After-read-text → tie.Start
@@ -60,8 +46,11 @@ put-lines-requires : tie.Need-put-lines-requires
 put-lines-requires c κs =
     let m = c .before .before .before in
     let r = m .before .before .before .before .before .before in
-    let e = m .answer .given .1 in
+    let e = m .count .given .1 in
     (records-inside (reading r) e, rw (rows-are (reading r) e) (omega (arith, size-is (reading r) e, room r)))
+
+enum-known-r : tie.Need-enum-known-r
+enum-known-r c = search needs
 
 number-requires : tie.Need-number-requires
 number-requires c κs = search needs
@@ -86,7 +75,7 @@ returns-2 c =
     let m = c .before .before .before .before .before .before in
     let r = m .before .before .before .before .before .before in
     let z = r .before .before .before .before .before .before .listing-size .ensures in
-    tokens-listed (reading r) (m .answer .given .1) z (room r) (c .before .before .put-lines .ensures)
+    tokens-listed (reading r) (m .count .given .1) z (room r) (c .before .before .put-lines .ensures)
 
 same-length-5 : tie.Need-same-length-5
 same-length-5 c = search needs
@@ -103,9 +92,9 @@ same-length-8 c = search needs
 returns-3 : tie.Need-returns-3
 returns-3 c =
     let n = c .before .before .before .before in
-    let r = n .before .before .before .before .before .before in
-    let z = not-counted (r .read-text .result) (n .before .match .keys2) in
-    refusal-listed (reading r) (n .number .result) (n .number .ensures) z (room r) (c .before .before .put-refusal .ensures)
+    let x = n .before .before in
+    let r = x .before .before .before .before .before .before in
+    refusal-listed (reading r) (x .r .given .1) (n .number .result) (n .number .ensures) (room r) (c .before .before .put-refusal .ensures)
 
 pub list-spec : {M : Type 1} → statement M
 list-spec =
@@ -115,8 +104,9 @@ list-spec =
     returns
     default-bytes-limit-requires
     read-text-requires
-    enum-known-answer
+    enum-known-count
     put-lines-requires
+    enum-known-r
     number-requires
     put-refusal-requires
     same-length

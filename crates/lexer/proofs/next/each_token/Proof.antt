@@ -1,12 +1,13 @@
 -- `each_token` is the token that starts past the blanks: a mark by its byte alone, any other by the lexers. Assumes nothing.
-use mathlib.Core.Path.{_≡_, _∙_}
+use mathlib.Core.Path.{sym, _∙_}
 use Rattle.base.specs.Bytes.{byte}
-use Rattle.token.specs.Kind.{kindNumber}
+use Rattle.token.proofs.KindNumbers.{IsEof}
 use Rattle.token.specs.Place.{Walkable}
 use Rattle.lexer.specs.Lexer.{markOf}
 use Rattle.lexer.proofs.Founds.{past-place, past-next}
 use Rattle.lexer.proofs.Marks.{mark-steppable, mark-placing, mark-token}
 use borrow.Author.Needs.{needs}
+use borrow.Author.Tests.{eqb-false, not-true}
 use Rattle.lexer.proofs.next.each_token.Statement.{statement}
 use Rattle.lexer.proofs.next.each_token.Tie as tie
 
@@ -18,9 +19,10 @@ start-in c =
 
 -- the branch for marks
 is-mark : (c : tie.Then1)
-    → kindNumber (markOf (byte (c .before .before .before .before .before .before .args .text .now) (c .before .before .before .before .past-blanks .result .offset))) ≡ 0
+    → IsEof (markOf (byte (c .before .before .before .before .before .before .args .text .now) (c .before .before .before .before .past-blanks .result .offset)))
     → ⊥
-is-mark c = rw (← c .before .before .before .peek .ensures, ← c .before .before .mark .ensures, ← c .before .number .ensures) (c .if1 .taken)
+is-mark c =
+    rw (← c .before .before .before .peek .ensures, ← c .before .before .mark .ensures) (eqb-false _ _ (sym (c .before .is-eof .ensures) ∙ not-true _ (c .if1 .taken)))
 
 past-blanks-requires : tie.Need-past-blanks-requires
 past-blanks-requires c κs = search needs
@@ -31,8 +33,8 @@ peek-requires c κs = search needs
 mark-requires : tie.Need-mark-requires
 mark-requires c κs = search needs
 
-number-requires : tie.Need-number-requires
-number-requires c κs = search needs
+is-eof-requires : tie.Need-is-eof-requires
+is-eof-requires c κs = search needs
 
 step-requires : tie.Need-step-requires
 step-requires c κs =
@@ -78,7 +80,7 @@ each-token-spec =
     past-blanks-requires
     peek-requires
     mark-requires
-    number-requires
+    is-eof-requires
     step-requires
     mark-lexeme-requires
     placed-requires

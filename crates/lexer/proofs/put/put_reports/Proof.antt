@@ -9,8 +9,11 @@ use Rattle.base.specs.Bytes.{byte}
 use Rattle.base.proofs.Reaches.{rest-is}
 use Rattle.lexeme.specs.Lexeme.{Note}
 use Rattle.lexeme.specs.Reports.{notesNumbers}
+use Rattle.token.specs.Reason as reasons
 use Rattle.scan.specs.Bytes.{bytesStop, stopReason}
+use Rattle.strings.specs.Literal.{stringNotes}
 use Rattle.triple_strings.specs.Triple.{quotes}
+use Rattle.lexer.specs.Reading.{modeOf, notesIn}
 use Rattle.lexer.proofs.Puts.{stop-small, notes-in-text, block-report, triple-report, bytes-report, quote-report, one-room}
 use borrow.Author.Needs.{needs}
 use Rattle.lexer.proofs.put.put_reports.Statement.{statement}
@@ -36,7 +39,7 @@ put-at-start-requires : tie.Need-put-at-start-requires
 put-at-start-requires c κs =
     let d = c .before .before in
     let a = d .before .before .before in
-    (a .pre .walkable, omega arith, one-room (a .args .mode) (a .args .limit) (a .args .text .now) (a .args .start) (length (a .args .out .now)) (a .args .at) (a .pre) 2 (block-report (a .args .mode) (a .args .limit) (a .args .text .now) (a .args .start) (length (a .args .out .now)) (a .args .at) (a .pre) (first-is d ∙ c .before .if1 .taken)))
+    (a .pre .walkable, omega arith, one-room (a .args .mode) (a .args .limit) (a .args .text .now) (a .args .start) (length (a .args .out .now)) (a .args .at) (a .pre) reasons.openBlockComment (block-report (a .args .mode) (a .args .limit) (a .args .text .now) (a .args .start) (length (a .args .out .now)) (a .args .at) (a .pre) (first-is d ∙ c .before .if1 .taken)))
 
 same-length : tie.Need-same-length
 same-length c = search needs
@@ -86,7 +89,7 @@ put-at-start-requires-3 : tie.Need-put-at-start-requires-3
 put-at-start-requires-3 c κs =
     let d = c .before .before in
     let a = d .before .before .before .before .before .before in
-    (a .pre .walkable, omega arith, one-room (a .args .mode) (a .args .limit) (a .args .text .now) (a .args .start) (length (a .args .out .now)) (a .args .at) (a .pre) 12 (triple-report (a .args .mode) (a .args .limit) (a .args .text .now) (a .args .start) (length (a .args .out .now)) (a .args .at) (a .pre) (quotes-are d ∙ c .before .if3 .taken)))
+    (a .pre .walkable, omega arith, one-room (a .args .mode) (a .args .limit) (a .args .text .now) (a .args .start) (length (a .args .out .now)) (a .args .at) (a .pre) reasons.openTripleString (triple-report (a .args .mode) (a .args .limit) (a .args .text .now) (a .args .start) (length (a .args .out .now)) (a .args .at) (a .pre) (quotes-are d ∙ c .before .if3 .taken)))
 
 same-length-3 : tie.Need-same-length-3
 same-length-3 c = search needs
@@ -98,14 +101,31 @@ returns-3 c =
     c .before .put-at-start3 .ensures ∙ ap (λ (ns : List Note). sets (a .args .out .now) (a .args .at) (notesNumbers (a .args .text .now) (a .args .start .offset) ns))
     (sym (triple-report (a .args .mode) (a .args .limit) (a .args .text .now) (a .args .start) (length (a .args .out .now)) (a .args .at) (a .pre) (quotes-are d ∙ c .before .before .before .if3 .taken)))
 
+mode-requires : tie.Need-mode-requires
+mode-requires c κs = search needs
+
+-- the reports are those of a string of one line
+literal-notes : (d : tie.Else3)
+    → notesIn (d .before .before .before .before .before .before .before .args .mode) (d .before .before .before .before .before .before .before .args .limit) (drop (d .before .before .before .before .before .before .before .args .start .offset) (d .before .before .before .before .before .before .before .args .text .now))
+    ≡ stringNotes (modeOf (d .before .before .before .before .before .before .before .args .mode)) (drop (d .before .before .before .before .before .before .before .args .start .offset) (d .before .before .before .before .before .before .before .args .text .now))
+literal-notes d =
+    let f = d .before .before .before .before in
+    let a = f .before .before .before in
+    quote-report (a .args .mode) (a .args .limit) (a .args .text .now) (a .args .start) (length (a .args .out .now)) (a .args .at) (a .pre)
+    (λ z. d .before .before .before .if1 .left (sym (first-is f) ∙ z)) (λ z. d .before .before .if2 .left (sym (first-is f) ∙ z)) (quotes-are (d .before) ∙ d .if3 .left)
+
 put-string-notes-requires : tie.Need-put-string-notes-requires
 put-string-notes-requires c κs =
     let d = c .before .before in
-    let f = d .before .before .before in
-    let a = f .before .before .before in
+    let a = d .before .before .before .before .before .before .before in
     let w = a .pre .walkable in
-    let e = quote-report (a .args .mode) (a .args .limit) (a .args .text .now) (a .args .start) (length (a .args .out .now)) (a .args .at) (a .pre) (λ z. d .before .before .if1 .left (sym (first-is f) ∙ z)) (λ z. d .before .if2 .left (sym (first-is f) ∙ z)) (quotes-are d ∙ c .before .if3 .left) in
-    record { true-place = w .true-place; inside = notes-in-text (a .args .mode) (a .args .limit) (a .args .text .now) (a .args .start) (length (a .args .out .now)) (a .args .at) (a .pre); short = w .short; room = rw e at (a .pre .fits) }
+    rw (c .before .mode .ensures)
+    (record {
+      true-place = w .true-place;
+      inside = notes-in-text (a .args .mode) (a .args .limit) (a .args .text .now) (a .args .start) (length (a .args .out .now)) (a .args .at) (a .pre);
+      short = w .short;
+      room = rw (literal-notes d) at (a .pre .fits);
+    })
 
 same-length-4 : tie.Need-same-length-4
 same-length-4 c = search needs
@@ -113,10 +133,9 @@ same-length-4 c = search needs
 returns-4 : tie.Need-returns-4
 returns-4 c =
     let d = c .before .before .before .before in
-    let f = d .before .before .before in
-    let a = f .before .before .before in
-    c .before .put-string-notes .ensures ∙ ap (λ (ns : List Note). sets (a .args .out .now) (a .args .at) (notesNumbers (a .args .text .now) (a .args .start .offset) ns))
-    (sym (quote-report (a .args .mode) (a .args .limit) (a .args .text .now) (a .args .start) (length (a .args .out .now)) (a .args .at) (a .pre) (λ z. d .before .before .if1 .left (sym (first-is f) ∙ z)) (λ z. d .before .if2 .left (sym (first-is f) ∙ z)) (quotes-are d ∙ c .before .before .before .if3 .left)))
+    let a = d .before .before .before .before .before .before .before in
+    rw (c .before .before .before .mode .ensures) at (c .before .put-string-notes .ensures)
+    ∙ ap (λ (ns : List Note). sets (a .args .out .now) (a .args .at) (notesNumbers (a .args .text .now) (a .args .start .offset) ns)) (sym (literal-notes d))
 
 pub put-reports-spec : {M : Type 1} → statement M
 put-reports-spec =
@@ -137,6 +156,7 @@ put-reports-spec =
     put-at-start-requires-3
     same-length-3
     returns-3
+    mode-requires
     put-string-notes-requires
     same-length-4
     returns-4)

@@ -6,8 +6,8 @@ use Rattle.pxf.proofs.Given.{token-fit, token-read}
 use Rattle.pxf.proofs.texts.pxf_read_token.Statement.{statement}
 use Rattle.pxf.proofs.texts.pxf_read_token.Tie as tie
 
-mode-of-requires : tie.Need-mode-of-requires
-mode-of-requires c κs = search needs
+reading-of-requires : tie.Need-reading-of-requires
+reading-of-requires c κs = search needs
 
 read-token-requires : tie.Need-read-token-requires
 read-token-requires c κs = search needs
@@ -16,7 +16,7 @@ of-token-requires : tie.Need-of-token-requires
 of-token-requires c κs =
     let a = c .before .before .before .before .before .before .before .before .before .before .before .args in
     let w = c .before .before .before .before .read-token in
-    token-fit (c .before .before .before .before .before .before .before .before .mode-of .result) (a .limit) (a .text .now) (placeOf (a .offset) (a .line) (a .column)) (length (a .tokens .now)) (length (a .strings .now)) (length (a .reports .now)) (w .result) (w .ensures .answer)
+    token-fit (c .before .before .before .before .before .before .before .before .reading-of .result) (a .limit) (a .text .now) (placeOf (a .offset) (a .line) (a .column)) (length (a .tokens .now)) (length (a .strings .now)) (length (a .reports .now)) (w .result) (w .ensures .answer)
 
 number-requires : tie.Need-number-requires
 number-requires c κs = search needs
@@ -33,13 +33,13 @@ same-length-3 c = search needs
 returns : tie.Need-returns
 returns c =
     let a = c .before .before .before .before .before .before .before .before .before .before .before .before .before .args in
-    token-read (a .offset) (a .line) (a .column) (a .mode) (rw (c .before .before .before .before .before .before .before .before .before .before .mode-of .ensures) at (c .before .before .before .before .before .before .read-token .ensures)) (c .number .ensures) (c .before .of-token .ensures)
+    token-read (a .offset) (a .line) (a .column) (a .mode) (rw (c .before .before .before .before .before .before .before .before .before .before .reading-of .ensures) at (c .before .before .before .before .before .before .read-token .ensures)) (c .number .ensures) (c .before .of-token .ensures)
 
 pub pxf-read-token-spec : {M : Type 1} → statement M
 pxf-read-token-spec =
     tie.close
     (tie.spec
-    mode-of-requires
+    reading-of-requires
     read-token-requires
     of-token-requires
     number-requires

@@ -2,7 +2,7 @@
 use mathlib.Core.Path.{sym, _∙_}
 use borrow.Author.Needs.{needs}
 use borrow.Author.Tests.{lt-ltb, le-ltb}
-use Rattle.reading.specs.Passes.{judgeOf}
+use Rattle.reading.specs.Refusals.{judgeOf}
 use Rattle.reading.proofs.judge.judge.Statement.{statement}
 use Rattle.reading.proofs.judge.judge.Tie as tie
 

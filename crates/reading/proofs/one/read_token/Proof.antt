@@ -1,136 +1,136 @@
--- `read_token` answers by the first test that fails, before anything is stored; else it stores the token. Assumes nothing.
-use mathlib.Core.Path.{sym, _∙_}
+-- `read_token` answers by the first test that fails, before anything is stored; else it stores the token. What has passed so far is named stage by
+-- stage. Assumes nothing.
+use mathlib.Core.Bool.{true}
+use mathlib.Core.Path.{_≡_, sym, _∙_}
 use native.Mathlib.Omega.{arith}
 use borrow.Author.Needs.{needs}
 use borrow.Author.Tests.{not-true, not-false}
-use Rattle.reading.proofs.Judges.{judged, well-octets}
-use Rattle.reading.proofs.Ones.{too-long, not-utf8, no-place, walkable, tokens-short, few, strings-short, reports-short, record-room, string-room, notes-room, done}
+use Rattle.reading.specs.Refusals.{judgeOf}
+use Rattle.reading.specs.Answers.{isPlace}
+use Rattle.reading.specs.declared.judge.Judged.the-variants.{Fit}
+use Rattle.reading.proofs.Refusals.{fitting, well-octets}
+use Rattle.reading.proofs.Ones.{unfit, no-place, walkable, tokens-short, few, strings-short, reports-short, Passed, record-room, string-room, notes-room, done}
 use Rattle.reading.proofs.one.read_token.Statement.{statement}
 use Rattle.reading.proofs.one.read_token.Tie as tie
 
-judge-requires : tie.Need-judge-requires
-judge-requires c κs = search needs
+-- ---- the stages
 
-enum-told : tie.Need-enum-told
-enum-told c = search needs
+-- the text fits
+fit : (d : tie.After-enum-told) → judgeOf (d .before .before .before .before .before .args .text .now) ≡ Fit
+fit d = sym (d .before .before .judge .ensures) ∙ d .enum-told .given .1
+
+-- the place is one of the text
+placed : (d : tie.Else1) → isPlace (d .before .before .before .before .before .before .before .args .text .now) (d .before .before .before .before .before .before .before .args .place) ≡ true
+placed d = sym (d .before .is-place .ensures) ∙ not-false _ (d .if1 .left)
+
+-- all checks have passed
+passed : (d : tie.Else4)
+    → let x = d .before .before .before .before .before in
+    let a = x .before .before .before .before .before .before .before .args in
+    Passed (a .mode) (a .limit) (a .text .now) (a .place) (a .tokens .now) (a .strings .now) (a .reports .now) (d .before .before .before .next-token .result) (d .before .before .string-size .result)
+passed d =
+    let s = d .before .before in
+    let n = s .before in
+    let x = n .before .before in
+    record {
+      fit = fit (x .before .before);
+      place = placed x;
+      tokens = n .before .if2 .left;
+      token = n .next-token .ensures;
+      size = s .string-size .ensures;
+      strings = d .before .if3 .left;
+      reports = d .if4 .left;
+    }
+
+-- ---- the needs
 
 returns : tie.Need-returns
 returns c =
-    let a = c .before .before .before .before .before .args in
-    too-long (a .mode) (a .limit) (a .text .now) (a .place) (a .tokens .now) (a .strings .now) (a .reports .now) (judged (a .text .now) (c .before .before .judge .result) (c .before .before .judge .ensures) .long (c .enum-told .given .1))
+    unfit (sym (c .before .before .before .judge .ensures) ∙ c .before .r .given .1)
 
-enum-known-at : tie.Need-enum-known-at
-enum-known-at c = search needs
+is-place-requires : tie.Need-is-place-requires
+is-place-requires c κs = fitting _ (fit c) .0
 
 returns-2 : tie.Need-returns-2
 returns-2 c =
-    let a = c .before .before .before .before .before .before .args in
-    let f = judged (a .text .now) (c .before .before .before .judge .result) (c .before .before .before .judge .ensures) .ill _ (c .before .at .given .1) in
-    not-utf8 (a .mode) (a .limit) (a .text .now) (a .place) (a .tokens .now) (a .strings .now) (a .reports .now) (f .0) (f .1)
-
-enum-told-2 : tie.Need-enum-told-2
-enum-told-2 c = search needs
-
-is-place-requires : tie.Need-is-place-requires
-is-place-requires c κs =
-    let a = c .before .before .before .before .before .args in
-    let f = judged (a .text .now) (c .before .before .judge .result) (c .before .before .judge .ensures) .fit (c .enum-told2 .given .1) in
-    f .0
+    let f = c .before .before in
+    no-place (fit f) (sym (c .before .is-place .ensures) ∙ not-true _ (c .if1 .taken))
 
 returns-3 : tie.Need-returns-3
 returns-3 c =
-    let a = c .before .before .before .before .before .before .before .args in
-    let f = judged (a .text .now) (c .before .before .before .before .judge .result) (c .before .before .before .before .judge .ensures) .fit (c .before .before .enum-told2 .given .1) in
-    no-place (a .mode) (a .limit) (a .text .now) (a .place) (a .tokens .now) (a .strings .now) (a .reports .now) (f .0) (f .1) (sym (c .before .is-place .ensures) ∙ not-true _ (c .if1 .taken))
-
-returns-4 : tie.Need-returns-4
-returns-4 c =
-    let a = c .before .before .before .before .before .before .before .before .args in
-    let f = judged (a .text .now) (c .before .before .before .before .before .judge .result) (c .before .before .before .before .before .judge .ensures) .fit (c .before .before .before .enum-told2 .given .1) in
-    tokens-short (a .mode) (a .limit) (a .text .now) (a .place) (a .tokens .now) (a .strings .now) (a .reports .now) (f .0) (f .1) (sym (c .before .before .is-place .ensures) ∙ not-false _ (c .before .if1 .left)) (c .if2 .taken)
+    let x = c .before in
+    let f = x .before .before in
+    tokens-short (fit f) (placed x) (c .if2 .taken)
 
 next-token-requires : tie.Need-next-token-requires
 next-token-requires c κs =
-    let a = c .before .before .before .before .before .before .before .before .args in
-    let f = judged (a .text .now) (c .before .before .before .before .before .judge .result) (c .before .before .before .before .before .judge .ensures) .fit (c .before .before .before .enum-told2 .given .1) in
-    (walkable (a .mode) (a .limit) (a .text .now) (a .place) (a .tokens .now) (a .strings .now) (a .reports .now) (f .0) (f .1) (sym (c .before .before .is-place .ensures) ∙ not-false _ (c .before .if1 .left)), well-octets (a .text .now) (f .1))
+    let x = c .before in
+    let f = x .before .before in
+    let a = f .before .before .before .before .before .args in
+    (walkable (a .mode) (a .limit) (a .text .now) (a .place) (fit f) (placed x), well-octets _ (fitting _ (fit f) .1))
 
-string-size-requires : tie.Need-string-size-requires
-string-size-requires c κs = search needs
-
-returns-5 : tie.Need-returns-5
-returns-5 c =
-    let a = c .before .before .before .before .before .before .before .before .before .before .before .args in
-    let f = judged (a .text .now) (c .before .before .before .before .before .before .before .before .judge .result) (c .before .before .before .before .before .before .before .before .judge .ensures) .fit (c .before .before .before .before .before .before .enum-told2 .given .1) in
-    strings-short (a .mode) (a .limit) (a .text .now) (a .place) (a .tokens .now) (a .strings .now) (a .reports .now) (f .0) (f .1) (sym (c .before .before .before .before .before .is-place .ensures) ∙ not-false _ (c .before .before .before .before .if1 .left)) (c .before .before .before .if2 .left) (c .before .before .next-token .ensures) (c .before .string-size .ensures) (c .if3 .taken)
+returns-4 : tie.Need-returns-4
+returns-4 c =
+    let n = c .before .before in
+    let x = n .before .before in
+    let f = x .before .before in
+    strings-short (fit f) (placed x) (n .before .if2 .left) (n .next-token .ensures) (c .before .string-size .ensures) (c .if3 .taken)
 
 mul-if4 : tie.Need-mul-if4
 mul-if4 c =
-    let a = c .before .before .before .before .before .before .before .before .before .before .before .args in
-    let f = judged (a .text .now) (c .before .before .before .before .before .before .before .before .judge .result) (c .before .before .before .before .before .before .before .before .judge .ensures) .fit (c .before .before .before .before .before .before .enum-told2 .given .1) in
-    record { fits = omega (arith, few (a .mode) (a .limit) (a .text .now) (a .place) (a .tokens .now) (a .strings .now) (a .reports .now) (f .0) (f .1) (sym (c .before .before .before .before .before .is-place .ensures) ∙ not-false _ (c .before .before .before .before .if1 .left)) (c .before .before .before .if2 .left) (c .before .before .next-token .ensures), f .0) }
+    let n = c .before .before in
+    let x = n .before .before in
+    let f = x .before .before in
+    let a = f .before .before .before .before .before .args in
+    record { fits = omega (arith, few (a .mode) (a .limit) (a .text .now) (a .place) (fit f) (placed x) (n .next-token .ensures), fitting _ (fit f) .0) }
 
-returns-6 : tie.Need-returns-6
-returns-6 c =
-    let a = c .before .before .before .before .before .before .before .before .before .before .before .before .args in
-    let f = judged (a .text .now) (c .before .before .before .before .before .before .before .before .before .judge .result) (c .before .before .before .before .before .before .before .before .before .judge .ensures) .fit (c .before .before .before .before .before .before .before .enum-told2 .given .1) in
-    reports-short (a .mode) (a .limit) (a .text .now) (a .place) (a .tokens .now) (a .strings .now) (a .reports .now) (f .0) (f .1) (sym (c .before .before .before .before .before .before .is-place .ensures) ∙ not-false _ (c .before .before .before .before .before .if1 .left)) (c .before .before .before .before .if2 .left) (c .before .before .before .next-token .ensures) (c .before .before .string-size .ensures) (c .before .if3 .left) (c .if4 .taken)
+returns-5 : tie.Need-returns-5
+returns-5 c =
+    let s = c .before .before in
+    let n = s .before in
+    let x = n .before .before in
+    let f = x .before .before in
+    reports-short (fit f) (placed x) (n .before .if2 .left) (n .next-token .ensures) (s .string-size .ensures) (c .before .if3 .left) (c .if4 .taken)
 
 put-record-requires : tie.Need-put-record-requires
 put-record-requires c κs =
-    let a = c .before .before .before .before .before .before .before .before .before .before .before .before .before .before .args in
-    let f = judged (a .text .now) (c .before .before .before .before .before .before .before .before .before .before .before .judge .result) (c .before .before .before .before .before .before .before .before .before .before .before .judge .ensures) .fit (c .before .before .before .before .before .before .before .before .before .enum-told2 .given .1) in
-    record-room (a .mode) (a .limit) (a .text .now) (a .place) (a .tokens .now) (a .strings .now) (a .reports .now) (f .0) (f .1) (sym (c .before .before .before .before .before .before .before .before .is-place .ensures) ∙ not-false _ (c .before .before .before .before .before .before .before .if1 .left)) (c .before .before .before .before .before .before .if2 .left) (c .before .before .before .before .before .next-token .ensures) (c .before .before .before .before .string-size .ensures) (c .before .before .before .if3 .left) (c .before .before .if4 .left) (λ k. c .before .before .before .before .before .before .before .before .before .before .before .before .before .shared-slice-known .given k .fits)
+    let d = c .before .before in
+    record-room (passed d) (λ k. d .before .before .before .before .before .before .before .before .before .before .before .shared-slice-known .given k .fits)
 
 put-value-requires : tie.Need-put-value-requires
-put-value-requires c κs =
-    let a = c .before .before .before .before .before .before .before .before .before .before .before .before .before .before .before .before .before .args in
-    let f = judged (a .text .now) (c .before .before .before .before .before .before .before .before .before .before .before .before .before .before .judge .result) (c .before .before .before .before .before .before .before .before .before .before .before .before .before .before .judge .ensures) .fit (c .before .before .before .before .before .before .before .before .before .before .before .before .enum-told2 .given .1) in
-    string-room (a .mode) (a .limit) (a .text .now) (a .place) (a .tokens .now) (a .strings .now) (a .reports .now) (f .0) (f .1) (sym (c .before .before .before .before .before .before .before .before .before .before .before .is-place .ensures) ∙ not-false _ (c .before .before .before .before .before .before .before .before .before .before .if1 .left)) (c .before .before .before .before .before .before .before .before .before .if2 .left) (c .before .before .before .before .before .before .before .before .next-token .ensures) (c .before .before .before .before .before .before .before .string-size .ensures) (c .before .before .before .before .before .before .if3 .left) (c .before .before .before .before .before .if4 .left)
+put-value-requires c κs = string-room (passed (c .before .before .before .before .before))
 
 put-notes-requires : tie.Need-put-notes-requires
 put-notes-requires c κs =
-    let a = c .before .before .before .before .before .before .before .before .before .before .before .before .before .before .before .before .before .before .before .before .before .args in
-    let f = judged (a .text .now) (c .before .before .before .before .before .before .before .before .before .before .before .before .before .before .before .before .before .before .judge .result) (c .before .before .before .before .before .before .before .before .before .before .before .before .before .before .before .before .before .before .judge .ensures) .fit (c .before .before .before .before .before .before .before .before .before .before .before .before .before .before .before .before .enum-told2 .given .1) in
-    notes-room (a .mode) (a .limit) (a .text .now) (a .place) (a .tokens .now) (a .strings .now) (a .reports .now) (f .0) (f .1) (sym (c .before .before .before .before .before .before .before .before .before .before .before .before .before .before .before .is-place .ensures) ∙ not-false _ (c .before .before .before .before .before .before .before .before .before .before .before .before .before .before .if1 .left)) (c .before .before .before .before .before .before .before .before .before .before .before .before .before .if2 .left) (c .before .before .before .before .before .before .before .before .before .before .before .before .next-token .ensures) (c .before .before .before .before .before .before .before .before .before .before .before .string-size .ensures) (c .before .before .before .before .before .before .before .before .before .before .if3 .left) (c .before .before .before .before .before .before .before .before .before .if4 .left)
+    let v = c .before .before .before .before in
+    notes-room (passed (v .before .before .before .before .before))
 
-same-length : tie.Need-same-length
-same-length c = search needs
-
-same-length-2 : tie.Need-same-length-2
-same-length-2 c = search needs
-
-same-length-3 : tie.Need-same-length-3
-same-length-3 c = search needs
-
-returns-7 : tie.Need-returns-7
-returns-7 c =
-    let a = c .before .before .before .before .before .before .before .before .before .before .before .before .before .before .before .before .before .before .before .before .before .before .before .args in
-    let f = judged (a .text .now) (c .before .before .before .before .before .before .before .before .before .before .before .before .before .before .before .before .before .before .before .before .judge .result) (c .before .before .before .before .before .before .before .before .before .before .before .before .before .before .before .before .before .before .before .before .judge .ensures) .fit (c .before .before .before .before .before .before .before .before .before .before .before .before .before .before .before .before .before .before .enum-told2 .given .1) in
-    done (a .mode) (a .limit) (a .text .now) (a .place) (a .tokens .now) (a .strings .now) (a .reports .now) (f .0) (f .1) (sym (c .before .before .before .before .before .before .before .before .before .before .before .before .before .before .before .before .before .is-place .ensures) ∙ not-false _ (c .before .before .before .before .before .before .before .before .before .before .before .before .before .before .before .before .if1 .left)) (c .before .before .before .before .before .before .before .before .before .before .before .before .before .before .before .if2 .left) (c .before .before .before .before .before .before .before .before .before .before .before .before .before .before .next-token .ensures) (c .before .before .before .before .before .before .before .before .before .before .before .before .before .string-size .ensures) (c .before .before .before .before .before .before .before .before .before .before .before .before .if3 .left) (c .before .before .before .before .before .before .before .before .before .before .before .if4 .left) (c .before .before .before .before .before .before .before .before .put-record .ensures) (c .before .before .before .before .before .put-value .ensures) (c .before .put-notes .ensures)
+returns-6 : tie.Need-returns-6
+returns-6 c =
+    let v = c .before .before .before .before .before in
+    let r = v .before .before .before in
+    done (passed (r .before .before .before)) (r .put-record .ensures) (v .put-value .ensures) (c .before .put-notes .ensures)
 
 pub read-token-spec : {M : Type 1} → statement M
 read-token-spec =
     tie.close
     (tie.spec
-    judge-requires
-    enum-told
+    (λ c κs. search needs)
+    (λ c. search needs)
     returns
-    enum-known-at
-    returns-2
-    enum-told-2
+    (λ c. search needs)
     is-place-requires
+    returns-2
     returns-3
-    returns-4
     next-token-requires
-    string-size-requires
-    returns-5
+    (λ c κs. search needs)
+    returns-4
     mul-if4
-    returns-6
+    returns-5
     put-record-requires
     put-value-requires
     put-notes-requires
-    same-length
-    same-length-2
-    same-length-3
-    returns-7)
+    (λ c. search needs)
+    (λ c. search needs)
+    (λ c. search needs)
+    returns-6)

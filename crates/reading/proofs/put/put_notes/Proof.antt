@@ -3,7 +3,7 @@ use mathlib.Core.Path.{_∙_}
 use native.Mathlib.Omega.{arith}
 use lib.ListN.{drop}
 use Rattle.lexeme.specs.Reports.{notesNumbers}
-use Rattle.lexer.specs.Lexer.{notesOf}
+use Rattle.lexer.specs.Reading.{notesIn}
 use Rattle.base.proofs.Stores.{empty}
 use borrow.Author.Needs.{needs}
 use Rattle.reading.proofs.put.put_notes.Statement.{statement}
@@ -13,7 +13,7 @@ returns : tie.Need-returns
 unfolding notesNumbers
 returns c =
     let a = c .before .before .before in
-    rw (empty (notesOf (a .args .mode) (a .args .limit) (drop (a .args .t .start .offset) (a .args .text .now))) (a .pre .counted ∙ c .if1 .taken))
+    rw (empty (notesIn (a .args .mode) (a .args .limit) (drop (a .args .t .start .offset) (a .args .text .now))) (a .pre .counted ∙ c .if1 .taken))
 
 put-reports-requires : tie.Need-put-reports-requires
 put-reports-requires c κs =

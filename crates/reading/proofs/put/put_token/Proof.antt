@@ -7,7 +7,7 @@ use lib.Seq.{sets, length-sets}
 use Rattle.base.proofs.Reaches.{rest-is}
 use Rattle.base.proofs.Stores.{empty}
 use Rattle.lexeme.specs.Reports.{notesNumbers}
-use Rattle.lexer.specs.Lexer.{stringOf, notesOf}
+use Rattle.lexer.specs.Reading.{stringIn, notesIn}
 use borrow.Author.Needs.{needs}
 use Rattle.reading.proofs.put.put_token.Statement.{statement}
 use Rattle.reading.proofs.put.put_token.Tie as tie
@@ -50,17 +50,17 @@ put-string-requires c κs =
 strings-are : (d : tie.Joined1)
     → d .if1 .strings
     ≡ sets (d .before .before .before .before .before .before .before .args .strings .now) (d .before .before .before .before .before .before .before .args .at)
-    (stringOf (d .before .before .before .before .before .before .before .args .mode) (drop (d .before .before .before .before .before .before .before .args .t .start .offset) (d .before .before .before .before .before .before .before .args .text .now)))
+    (stringIn (d .before .before .before .before .before .before .before .args .mode) (drop (d .before .before .before .before .before .before .before .args .t .start .offset) (d .before .before .before .before .before .before .before .args .text .now)))
 strings-are d =
     let a = d .before .before .before .before .before .before .before in
     ⊎-elim (λ w. w .7 ∙ (rw rest-is at (w .4 .ensures)))
-    (λ w. w .1 ∙ ap (sets (a .args .strings .now) (a .args .at)) (sym (empty (stringOf (a .args .mode) (drop (a .args .t .start .offset) (a .args .text .now))) (a .pre .of-string .counted ∙ sym (d .before .string-size .ensures) ∙ w .0 .left))))
+    (λ w. w .1 ∙ ap (sets (a .args .strings .now) (a .args .at)) (sym (empty (stringIn (a .args .mode) (drop (a .args .t .start .offset) (a .args .text .now))) (a .pre .of-string .counted ∙ sym (d .before .string-size .ensures) ∙ w .0 .left))))
     (d .if1 .came)
 
 strings-length : (d : tie.Joined1) → length (d .if1 .strings) ≡ length (d .before .before .before .before .before .before .before .args .strings .now)
 strings-length d =
     let a = d .before .before .before .before .before .before .before .args in
-    ap length (strings-are d) ∙ length-sets (a .strings .now) (a .at) (stringOf (a .mode) (drop (a .t .start .offset) (a .text .now)))
+    ap length (strings-are d) ∙ length-sets (a .strings .now) (a .at) (stringIn (a .mode) (drop (a .t .start .offset) (a .text .now)))
 
 put-reports-requires : tie.Need-put-reports-requires
 put-reports-requires c κs =
@@ -94,7 +94,7 @@ returns-2 c =
       of-record = c .before .before .before .before .before .put-record .ensures;
       of-string = strings-are (c .before .before);
       of-notes =
-          rw (empty (notesOf (a .args .mode) (a .args .limit) (drop (a .args .t .start .offset) (a .args .text .now))) (a .pre .of-notes .counted ∙ c .if2 .left));
+          rw (empty (notesIn (a .args .mode) (a .args .limit) (drop (a .args .t .start .offset) (a .args .text .now))) (a .pre .of-notes .counted ∙ c .if2 .left));
     }
 
 pub put-token-spec : {M : Type 1} → statement M

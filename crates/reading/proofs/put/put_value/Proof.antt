@@ -3,7 +3,7 @@ use mathlib.Core.Path.{sym, _∙_}
 use native.Mathlib.Omega.{arith}
 use lib.ListN.{drop}
 use Rattle.base.proofs.Reaches.{rest-is}
-use Rattle.lexer.specs.Lexer.{stringOf}
+use Rattle.lexer.specs.Reading.{stringIn}
 use Rattle.base.proofs.Stores.{empty}
 use borrow.Author.Needs.{needs}
 use Rattle.reading.proofs.put.put_value.Statement.{statement}
@@ -15,7 +15,7 @@ string-size-requires c κs = search needs
 returns : tie.Need-returns
 returns c =
     let a = c .before .before .before .before in
-    rw (empty (stringOf (a .args .mode) (drop (a .args .t .start .offset) (a .args .text .now))) (a .pre .counted ∙ sym (c .before .string-size .ensures) ∙ c .if1 .taken))
+    rw (empty (stringIn (a .args .mode) (drop (a .args .t .start .offset) (a .args .text .now))) (a .pre .counted ∙ sym (c .before .string-size .ensures) ∙ c .if1 .taken))
 
 sub-len : tie.Need-sub-len
 sub-len c =

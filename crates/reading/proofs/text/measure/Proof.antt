@@ -4,6 +4,7 @@ use Prim.Native.Nat.{_-_}
 use native.Mathlib.Omega.{arith}
 use lib.ListN.{length}
 use borrow.Author.Needs.{needs}
+use borrow.Author.Tests.{eqb-true, eqb-false}
 use Rattle.reading.proofs.Turns.{Measuring, measuring-start, measuring-few, measuring-less, measuring-turn, measuring-end}
 use Rattle.reading.proofs.text.measure.Statement.{statement}
 use Rattle.reading.proofs.text.measure.Tie as tie
@@ -26,14 +27,14 @@ add-tokens c =
     let w = n .before .loop .inv in
     record { fits = omega (arith, measuring-few w (n .next-lexeme .ensures), n .before .before .before .pre .0) }
 
-number-requires : tie.Need-number-requires Inv-loop μ-loop
-number-requires c κs = search needs
+is-eof-requires : tie.Need-is-eof-requires Inv-loop μ-loop
+is-eof-requires c κs = search needs
 
 returns : tie.Need-returns Inv-loop μ-loop
 returns c =
     let n = c .before .before .before in
     let w = n .before .loop .inv in
-    measuring-end w (n .next-lexeme .ensures) (sym (c .before .number .ensures) ∙ c .if1 .taken)
+    measuring-end w (n .next-lexeme .ensures) (eqb-true _ _ (sym (c .before .is-eof .ensures) ∙ c .if1 .taken))
 
 string-size-requires : tie.Need-string-size-requires Inv-loop μ-loop
 string-size-requires c κs = search needs
@@ -60,13 +61,13 @@ loop-less : tie.Need-loop-less Inv-loop μ-loop
 loop-less c =
     let n = c .before .before .before .before .before .before in
     let w = n .before .loop .inv in
-    measuring-less w (n .next-lexeme .ensures) (λ z. c .before .before .before .if1 .left (c .before .before .before .before .number .ensures ∙ z))
+    measuring-less w (n .next-lexeme .ensures) (eqb-false _ _ (sym (c .before .before .before .before .is-eof .ensures) ∙ c .before .before .before .if1 .left))
 
 loop-again : tie.Need-loop-again Inv-loop μ-loop
 loop-again c =
     let n = c .before .before .before .before .before .before in
     let w = n .before .loop .inv in
-    rw (c .before .before .string-size .ensures) (measuring-turn w (n .next-lexeme .ensures) (λ z. c .before .before .before .if1 .left (c .before .before .before .before .number .ensures ∙ z)))
+    rw (c .before .before .string-size .ensures) (measuring-turn w (n .next-lexeme .ensures) (eqb-false _ _ (sym (c .before .before .before .before .is-eof .ensures) ∙ c .before .before .before .if1 .left)))
 
 pub measure-spec : {M : Type 1} → statement M
 measure-spec =
@@ -77,7 +78,7 @@ measure-spec =
     loop-holds
     next-lexeme-requires
     add-tokens
-    number-requires
+    is-eof-requires
     returns
     string-size-requires
     add-strings

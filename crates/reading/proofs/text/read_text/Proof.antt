@@ -1,158 +1,130 @@
 -- `read_text` answers by the first test that fails, before anything is stored; else, or where the buffers suffice in any case, it stores all.
 -- Assumes nothing.
 use mathlib.Core.Path.{_≡_, sym, _∙_}
-use Prim.Native.Nat.{_≤_}
 use native.Mathlib.Omega.{arith}
 use lib.ListN.{length}
-use Rattle.limits.specs.Limits.{maxMessageSize}
-use Rattle.utf8.specs.Check.{checkOf}
-use Rattle.utf8.specs.declared.check.Verdict.the-variants.{WellFormed}
 use borrow.Author.Needs.{needs}
-use Rattle.reading.proofs.Judges.{judged, well-octets}
+use Rattle.reading.specs.Buffers.{wholeLaid}
+use Rattle.reading.specs.Passes.{Room}
+use Rattle.reading.specs.Refusals.{judgeOf}
+use Rattle.reading.specs.declared.judge.Judged.the-variants.{Fit}
+use Rattle.reading.proofs.Refusals.{fitting, well-octets}
 use Rattle.reading.proofs.Fits.{suffice-room}
-use Rattle.reading.proofs.Wholes.{too-long, not-utf8, few, tokens-short, strings-short, reports-short, room, done, done-room}
+use Rattle.reading.proofs.Wholes.{unfit, few, tokens-short, strings-short, reports-short, room, done, done-room}
 use Rattle.reading.proofs.text.read_text.Statement.{statement}
 use Rattle.reading.proofs.text.read_text.Tie as tie
 
-judge-requires : tie.Need-judge-requires
-judge-requires c κs = search needs
+-- ---- the stages
 
-enum-told : tie.Need-enum-told
-enum-told c = search needs
+-- the text fits
+fit : (d : tie.After-enum-told) → judgeOf (d .before .before .before .before .before .args .text .now) ≡ Fit
+fit d = sym (d .before .before .judge .ensures) ∙ d .enum-told .given .1
+
+-- the buffers suffice in any case
+roomy : (d : tie.Then1)
+    → let a = d .before .before .before .before .before .before .before .args in
+    Room (wholeLaid (a .mode) (a .limit) (a .text .now)) (length (a .tokens .now)) (length (a .strings .now)) (length (a .reports .now))
+roomy d =
+    let a = d .before .before .before .before .before .before .before .args in
+    suffice-room (a .mode) (a .limit) (a .text .now) (length (a .tokens .now)) (length (a .strings .now)) (length (a .reports .now)) (sym (d .before .suffice .ensures) ∙ d .if1 .taken)
+
+-- ---- the needs
 
 returns : tie.Need-returns
 returns c =
-    let a = c .before .before .before .before .before .args in
-    too-long (a .mode) (a .limit) (a .text .now) (a .tokens .now) (a .strings .now) (a .reports .now) (judged (a .text .now) (c .before .before .judge .result) (c .before .before .judge .ensures) .long (c .enum-told .given .1))
-
-enum-known-at : tie.Need-enum-known-at
-enum-known-at c = search needs
-
-returns-2 : tie.Need-returns-2
-returns-2 c =
-    let a = c .before .before .before .before .before .before .args in
-    let f = judged (a .text .now) (c .before .before .before .judge .result) (c .before .before .before .judge .ensures) .ill _ (c .before .at .given .1) in
-    not-utf8 (a .mode) (a .limit) (a .text .now) (a .tokens .now) (a .strings .now) (a .reports .now) (f .0) (f .1)
-
-enum-told-2 : tie.Need-enum-told-2
-enum-told-2 c = search needs
-
--- the text is short enough and well-formed
-fit : (d : tie.After-enum-told2) → (length (d .before .before .before .before .before .args .text .now) ≤ maxMessageSize) × (checkOf (d .before .before .before .before .before .args .text .now) ≡ WellFormed)
-fit d = judged (d .before .before .before .before .before .args .text .now) (d .before .before .judge .result) (d .before .before .judge .ensures) .fit (d .enum-told2 .given .1)
+    unfit (sym (c .before .before .before .judge .ensures) ∙ c .before .r .given .1)
 
 suffice-requires : tie.Need-suffice-requires
-suffice-requires c κs = fit c .0
+suffice-requires c κs = fitting _ (fit c) .0
 
 write-requires : tie.Need-write-requires
 write-requires c κs =
-    let d = c .before .before .before .before .before in
-    let a = d .before .before .before .before .before .args in
-    let f = fit d in
-    (suffice-room (a .mode) (a .limit) (a .text .now) (length (a .tokens .now)) (length (a .strings .now)) (length (a .reports .now)) (f .0) (sym (c .before .before .before .before .suffice .ensures) ∙ c .before .before .before .if1 .taken), well-octets (a .text .now) (f .1))
+    let d = c .before .before .before in
+    let f = fitting _ (fit (d .before .before)) in
+    (f .0, roomy d, well-octets _ (f .1))
 
-same-length : tie.Need-same-length
-same-length c = search needs
-
-same-length-2 : tie.Need-same-length-2
-same-length-2 c = search needs
-
-same-length-3 : tie.Need-same-length-3
-same-length-3 c = search needs
-
-returns-3 : tie.Need-returns-3
-returns-3 c =
-    let d = c .before .before .before .before .before .before .before .before .before .before in
-    let a = d .before .before .before .before .before .args in
-    let f = fit d in
-    let w = c .before .before .before .before .write .ensures in
-    done-room (a .mode) (a .limit) (a .text .now) (a .tokens .now) (a .strings .now) (a .reports .now) (f .0) (f .1) (w .0) (suffice-room (a .mode) (a .limit) (a .text .now) (length (a .tokens .now)) (length (a .strings .now)) (length (a .reports .now)) (f .0) (sym (c .before .before .before .before .before .before .before .before .before .suffice .ensures) ∙ c .before .before .before .before .before .before .before .before .if1 .taken)) (w .1)
+returns-2 : tie.Need-returns-2
+returns-2 c =
+    let w = c .before .before .before .before in
+    let d = w .before .before .before .before in
+    let f = d .before .before in
+    done-room (fit f) (w .write .ensures .0) (roomy d) (w .write .ensures .1)
 
 measure-requires : tie.Need-measure-requires
-measure-requires c κs = let f = fit (c .before .before) in (f .0, well-octets _ (f .1))
+measure-requires c κs = let f = fitting _ (fit (c .before .before)) in (f .0, well-octets _ (f .1))
 
 mul-if2 : tie.Need-mul-if2
 mul-if2 c =
-    let d = c .before .before .before in
-    let a = d .before .before .before .before .before .args in
-    let f = fit d in
-    record { fits = omega (arith, few (a .mode) (a .limit) (a .text .now) (a .tokens .now) (a .strings .now) (a .reports .now) (f .0) (f .1) (c .measure .ensures), f .0) }
+    let f = c .before .before .before in
+    let a = f .before .before .before .before .before .args in
+    record { fits = omega (arith, few (a .mode) (a .limit) (a .text .now) (c .measure .ensures), fitting _ (fit f) .0) }
+
+returns-3 : tie.Need-returns-3
+returns-3 c =
+    let n = c .before in
+    let f = n .before .before .before in
+    tokens-short (fit f) (n .measure .ensures) (c .if2 .taken)
 
 returns-4 : tie.Need-returns-4
 returns-4 c =
-    let d = c .before .before .before .before in
-    let a = d .before .before .before .before .before .args in
-    let f = fit d in
-    tokens-short (a .mode) (a .limit) (a .text .now) (a .tokens .now) (a .strings .now) (a .reports .now) (f .0) (f .1) (c .before .measure .ensures) (c .if2 .taken)
-
-returns-5 : tie.Need-returns-5
-returns-5 c =
-    let d = c .before .before .before .before .before in
-    let a = d .before .before .before .before .before .args in
-    let f = fit d in
-    strings-short (a .mode) (a .limit) (a .text .now) (a .tokens .now) (a .strings .now) (a .reports .now) (f .0) (f .1) (c .before .before .measure .ensures) (c .before .if2 .left) (c .if3 .taken)
+    let n = c .before .before in
+    let f = n .before .before .before in
+    strings-short (fit f) (n .measure .ensures) (c .before .if2 .left) (c .if3 .taken)
 
 mul-if4 : tie.Need-mul-if4
 mul-if4 c =
-    let d = c .before .before .before .before .before in
-    let a = d .before .before .before .before .before .args in
-    let f = fit d in
-    record { fits = omega (arith, few (a .mode) (a .limit) (a .text .now) (a .tokens .now) (a .strings .now) (a .reports .now) (f .0) (f .1) (c .before .before .measure .ensures), f .0) }
+    let n = c .before .before in
+    let f = n .before .before .before in
+    let a = f .before .before .before .before .before .args in
+    record { fits = omega (arith, few (a .mode) (a .limit) (a .text .now) (n .measure .ensures), fitting _ (fit f) .0) }
 
-returns-6 : tie.Need-returns-6
-returns-6 c =
-    let d = c .before .before .before .before .before .before in
-    let a = d .before .before .before .before .before .args in
-    let f = fit d in
-    reports-short (a .mode) (a .limit) (a .text .now) (a .tokens .now) (a .strings .now) (a .reports .now) (f .0) (f .1) (c .before .before .before .measure .ensures) (c .before .before .if2 .left) (c .before .if3 .left) (c .if4 .taken)
+returns-5 : tie.Need-returns-5
+returns-5 c =
+    let n = c .before .before .before in
+    let f = n .before .before .before in
+    reports-short (fit f) (n .measure .ensures) (c .before .before .if2 .left) (c .before .if3 .left) (c .if4 .taken)
 
 write-requires-2 : tie.Need-write-requires-2
 write-requires-2 c κs =
-    let d = c .before .before .before .before .before .before .before .before .before in
-    let a = d .before .before .before .before .before .args in
-    let f = fit d in
-    (room (a .mode) (a .limit) (a .text .now) (a .tokens .now) (a .strings .now) (a .reports .now) (f .0) (f .1) (c .before .before .before .before .before .before .measure .ensures) (c .before .before .before .before .before .if2 .left) (c .before .before .before .before .if3 .left) (c .before .before .before .if4 .left), well-octets (a .text .now) (f .1))
+    let d = c .before .before .before in
+    let n = d .before .before .before in
+    let f = n .before .before .before in
+    let g = fitting _ (fit f) in (
+      g .0,
+      room (n .measure .ensures) (d .before .before .if2 .left) (d .before .if3 .left) (d .if4 .left),
+      well-octets _ (g .1),
+    )
 
-same-length-4 : tie.Need-same-length-4
-same-length-4 c = search needs
-
-same-length-5 : tie.Need-same-length-5
-same-length-5 c = search needs
-
-same-length-6 : tie.Need-same-length-6
-same-length-6 c = search needs
-
-returns-7 : tie.Need-returns-7
-returns-7 c =
-    let d = c .before .before .before .before .before .before .before .before .before .before .before .before .before .before in
-    let a = d .before .before .before .before .before .args in
-    let f = fit d in
-    done (a .mode) (a .limit) (a .text .now) (a .tokens .now) (a .strings .now) (a .reports .now) (f .0) (f .1) (c .before .before .before .before .before .before .before .before .before .before .before .measure .ensures) (c .before .before .before .before .before .before .before .before .before .before .if2 .left) (c .before .before .before .before .before .before .before .before .before .if3 .left) (c .before .before .before .before .before .before .before .before .if4 .left) (c .before .before .before .before .write2 .ensures .1)
+returns-6 : tie.Need-returns-6
+returns-6 c =
+    let w = c .before .before .before .before in
+    let d = w .before .before .before .before in
+    let n = d .before .before .before in
+    let f = n .before .before .before in
+    done (fit f) (n .measure .ensures) (d .before .before .if2 .left) (d .before .if3 .left) (d .if4 .left) (w .write2 .ensures .1)
 
 pub read-text-spec : {M : Type 1} → statement M
 read-text-spec =
     tie.close
     (tie.spec
-    judge-requires
-    enum-told
+    (λ c κs. search needs)
+    (λ c. search needs)
     returns
-    enum-known-at
-    returns-2
-    enum-told-2
+    (λ c. search needs)
     suffice-requires
     write-requires
-    same-length
-    same-length-2
-    same-length-3
-    returns-3
+    (λ c. search needs)
+    (λ c. search needs)
+    (λ c. search needs)
+    returns-2
     measure-requires
     mul-if2
+    returns-3
     returns-4
-    returns-5
     mul-if4
-    returns-6
+    returns-5
     write-requires-2
-    same-length-4
-    same-length-5
-    same-length-6
-    returns-7)
+    (λ c. search needs)
+    (λ c. search needs)
+    (λ c. search needs)
+    returns-6)

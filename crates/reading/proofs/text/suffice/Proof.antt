@@ -4,11 +4,12 @@ use native.Mathlib.Omega.{arith}
 use borrow.Author.Needs.{needs}
 use Rattle.lexeme.specs.declared.Mode.{Mode}
 use Rattle.lexeme.specs.declared.Mode.the-variants.{Strict, Tolerant}
-use Rattle.reading.specs.Passes.{mostReports, sufficeFor}
+use Rattle.lexer.specs.Reading.{modeOf}
+use Rattle.reading.specs.Passes.{mostNotes, sufficeFor}
 use Rattle.reading.proofs.text.suffice.Statement.{statement}
 use Rattle.reading.proofs.text.suffice.Tie as tie
 
-most-le : (m : Mode) (len : ℕ) → mostReports m len ≤ len
+most-le : (m : Mode) (len : ℕ) → mostNotes m len ≤ len
 most-le Strict len = omega arith
 most-le Tolerant len = omega arith
 
@@ -22,7 +23,7 @@ mul-records : tie.Need-mul-records
 mul-records c = search needs
 
 mul-result : tie.Need-mul-result
-mul-result c = record { fits = omega (arith, c .most-reports .ensures, most-le (c .before .args .mode) (c .before .args .len), c .before .pre) }
+mul-result c = record { fits = omega (arith, c .most-reports .ensures, most-le (modeOf (c .before .args .mode)) (c .before .args .len), c .before .pre) }
 
 returns : tie.Need-returns
 unfolding sufficeFor

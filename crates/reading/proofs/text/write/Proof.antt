@@ -4,6 +4,7 @@ use Prim.Native.Nat.{_-_}
 use native.Mathlib.Omega.{arith}
 use lib.ListN.{length}
 use borrow.Author.Needs.{needs}
+use borrow.Author.Tests.{eqb-true, eqb-false}
 use Rattle.reading.proofs.Turns.{Passing, passing-start, passing-less, passing-few, token-room, passing-lengths, passing-turn, passing-end}
 use Rattle.reading.proofs.text.write.Statement.{statement}
 use Rattle.reading.proofs.text.write.Tie as tie
@@ -20,10 +21,10 @@ first-requires c κs = search needs
 loop-holds : tie.Need-loop-holds Inv-loop μ-loop
 loop-holds c =
     let a = c .before .before .before in
-    passing-start (a .args .mode) (a .args .limit) (a .args .text .now) (a .args .tokens .now) (a .args .strings .now) (a .args .reports .now) (c .first .result) (c .first .ensures) (a .pre .0)
+    passing-start (a .args .mode) (a .args .limit) (a .args .text .now) (a .args .tokens .now) (a .args .strings .now) (a .args .reports .now) (c .first .result) (c .first .ensures) (a .pre .0) (a .pre .1)
 
 each-token-requires : tie.Need-each-token-requires Inv-loop μ-loop
-each-token-requires c κs = (c .loop .inv .writing .walkable, c .before .before .before .before .pre .1)
+each-token-requires c κs = (c .loop .inv .writing .walkable, c .before .before .before .before .pre .2)
 
 mul-i : tie.Need-mul-i Inv-loop μ-loop
 mul-i c =
@@ -46,8 +47,8 @@ add-n c =
     let w = n .before .loop .inv in
     record { fits = omega (arith, passing-few w (n .each-token .ensures), w .writing .walkable .short) }
 
-number-requires : tie.Need-number-requires Inv-loop μ-loop
-number-requires c κs = search needs
+is-eof-requires : tie.Need-is-eof-requires Inv-loop μ-loop
+is-eof-requires c κs = search needs
 
 same-length : tie.Need-same-length Inv-loop μ-loop
 same-length c =
@@ -71,7 +72,7 @@ returns : tie.Need-returns Inv-loop μ-loop
 returns c =
     let q = c .before .before .before .before .before .before in
     let n = q .before .before .before .before in
-    passing-end (n .before .loop .inv) (n .each-token .ensures) (q .put-token .ensures) (sym (c .before .number .ensures) ∙ c .if1 .taken)
+    passing-end (n .before .loop .inv) (n .each-token .ensures) (q .put-token .ensures) (eqb-true _ _ (sym (c .before .is-eof .ensures) ∙ c .if1 .taken))
 
 string-size-requires : tie.Need-string-size-requires Inv-loop μ-loop
 string-size-requires c κs = search needs
@@ -91,14 +92,14 @@ add-k c =
 loop-less : tie.Need-loop-less Inv-loop μ-loop
 loop-less c =
     let n = c .before .before .before .before .before .before .before .before .before .before .before .before .before in
-    passing-less (n .before .loop .inv) (n .each-token .ensures) (λ z. c .before .before .before .if1 .left (c .before .before .before .before .number .ensures ∙ z))
+    passing-less (n .before .loop .inv) (n .each-token .ensures) (eqb-false _ _ (sym (c .before .before .before .before .is-eof .ensures) ∙ c .before .before .before .if1 .left))
 
 loop-again : tie.Need-loop-again Inv-loop μ-loop
 loop-again c =
     let q = c .before .before .before .before .before .before .before .before .before in
     let n = q .before .before .before .before in
     rw (c .before .before .string-size .ensures)
-    (passing-turn (n .before .loop .inv) (n .each-token .ensures) (q .put-token .ensures) (λ z. c .before .before .before .if1 .left (c .before .before .before .before .number .ensures ∙ z)))
+    (passing-turn (n .before .loop .inv) (n .each-token .ensures) (q .put-token .ensures) (eqb-false _ _ (sym (c .before .before .before .before .is-eof .ensures) ∙ c .before .before .before .if1 .left)))
 
 pub write-spec : {M : Type 1} → statement M
 write-spec =
@@ -113,7 +114,7 @@ write-spec =
     mul-j
     put-token-requires
     add-n
-    number-requires
+    is-eof-requires
     same-length
     same-length-2
     same-length-3

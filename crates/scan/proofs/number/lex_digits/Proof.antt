@@ -13,17 +13,14 @@ reach-run-requires c κs = search needs
 peek-requires : tie.Need-peek-requires
 peek-requires c κs = search needs
 
-reach-run-requires-2 : tie.Need-reach-run-requires-2
-reach-run-requires-2 c κs = search needs
-
-whole-requires : tie.Need-whole-requires
-whole-requires c κs = search needs
+lex-timestamp-requires : tie.Need-lex-timestamp-requires
+lex-timestamp-requires c κs = search needs
 
 returns : tie.Need-returns
 unfolding lexDigits
 returns c =
-    let b = c .before .before .before in
-    rw (← b .before .reach-run .ensures, ← b .peek .ensures, c .before .before .if1 .taken, ← c .before .reach-run2 .ensures) (c .whole .ensures)
+    let b = c .before .before in
+    rw (← b .before .reach-run .ensures, ← b .peek .ensures, c .before .if1 .taken) (c .lex-timestamp .ensures)
 
 past-fraction-requires : tie.Need-past-fraction-requires
 past-fraction-requires c κs =
@@ -47,8 +44,7 @@ lex-digits-spec =
     (tie.spec
     reach-run-requires
     peek-requires
-    reach-run-requires-2
-    whole-requires
+    lex-timestamp-requires
     returns
     past-fraction-requires
     lex-tail-requires

@@ -23,6 +23,9 @@ parse-requires c κs = search needs
 enum-known-nanos : tie.Need-enum-known-nanos
 enum-known-nanos c = search needs
 
+duration-requires : tie.Need-duration-requires
+duration-requires c κs = search needs
+
 enum-told : tie.Need-enum-told
 enum-told c = search needs
 
@@ -32,9 +35,9 @@ illegal-requires c κs = search needs
 returns : tie.Need-returns
 unfolding lexDuration
 returns c =
-    let b = c .before .before .before in
-    let f : SFits w64 (c .before .nanos .given .0 .0) = search needs in
-    rw (← b .before .before .past-units .ensures, ← b .parse .ensures, c .before .nanos .given .1, toZ-ofZ w64 _ f)
+    let b = c .before .before .before .before in
+    let f : SFits w64 (c .before .before .nanos .given .0 .0) = search needs in
+    rw (← b .before .before .past-units .ensures, ← b .parse .ensures, c .before .before .nanos .given .1) (rw (toZ-ofZ w64 _ f) at (c .duration .ensures))
 
 returns-2 : tie.Need-returns-2
 unfolding lexDuration
@@ -50,6 +53,7 @@ lex-duration-spec =
     slice-aggregate-parse
     parse-requires
     enum-known-nanos
+    duration-requires
     enum-told
     illegal-requires
     returns

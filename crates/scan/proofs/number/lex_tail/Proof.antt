@@ -35,8 +35,8 @@ number-kind-requires c κs = search needs
 value-end-requires : tie.Need-value-end-requires
 value-end-requires c κs = search needs
 
-with-precision-requires : tie.Need-with-precision-requires
-with-precision-requires c κs = rw (c .value-end .ensures) (goes-value _ _ _ .le (c .before .before .before .before .before .before .before .before .pre))
+lex-precision-requires : tie.Need-lex-precision-requires
+lex-precision-requires c κs = rw (c .value-end .ensures) (goes-value _ _ _ .le (c .before .before .before .before .before .before .before .before .pre))
 
 returns-2 : tie.Need-returns-2
 unfolding lexTail
@@ -51,7 +51,7 @@ returns-2 c =
       ← c .before .before .number-kind .ensures,
       ← c .before .value-end .ensures,
     )
-    (c .with-precision .ensures)
+    (c .lex-precision .ensures)
 
 pub lex-tail-spec : {M : Type 1} → statement M
 lex-tail-spec =
@@ -66,5 +66,5 @@ lex-tail-spec =
     goes-on-float-requires
     number-kind-requires
     value-end-requires
-    with-precision-requires
+    lex-precision-requires
     returns-2)

@@ -1,5 +1,5 @@
 -- `end_of` is `endOf`: each arm is a row of it. Assumes nothing.
-use Rattle.strings.proofs.Judges.{end-9, end-other}
+use Rattle.strings.proofs.Judges.{end-unknown, end-other}
 use Rattle.strings.specs.Literal.{endOf}
 use borrow.Author.Needs.{needs}
 use Rattle.strings.proofs.lex.end_of.Statement.{statement}
@@ -24,7 +24,7 @@ char-end-requires : tie.Need-char-end-requires
 char-end-requires c κs = search needs
 
 returns : tie.Need-returns
-returns c = search end-9
+returns c = search end-unknown
 
 returns-2 : tie.Need-returns-2
 unfolding endOf

@@ -19,6 +19,9 @@ extent-requires c κs = search needs
 returns : tie.Need-returns
 returns c = search tolerant-string
 
+illegal-reported-requires : tie.Need-illegal-reported-requires
+illegal-reported-requires c κs = search needs
+
 returns-2 : tie.Need-returns-2
 returns-2 c = search tolerant-ill
 
@@ -31,4 +34,5 @@ lex-tolerant-spec =
     add-reports
     extent-requires
     returns
+    illegal-reported-requires
     returns-2)

@@ -1,0 +1,68 @@
+-- The refusals: their numbers are not 0, a refused call lays nothing, and what the checks that every call begins with say of the text. By cases on
+-- the refusal and on the two tests. Assumes nothing.
+use mathlib.Core.Path.{_≡_, refl, sym}
+use mathlib.Core.Bool.{Bool, true, false}
+use mathlib.Core.List.{List}
+use Prim.Native.Nat.{ℕ, _≤_, _<_}
+use native.Mathlib.Omega.{arith}
+use lib.Dec.{ltb, eqb}
+use lib.IntN.{ℤ}
+use lib.ListN.{length}
+use borrow.Author.Tests.{ltb-true, ltb-false, le-ltb}
+use Rattle.base.specs.Choice.{pick}
+use Rattle.limits.specs.Limits.{maxMessageSize}
+use Rattle.utf8.specs.Grammar.{Octets}
+use Rattle.utf8.specs.Check.{checkOf}
+use Rattle.utf8.specs.declared.check.Verdict.{Verdict}
+use Rattle.utf8.specs.declared.check.Verdict.the-variants.{WellFormed, IllFormed}
+use Rattle.utf8.proofs.Valid.{checked}
+use Rattle.reading.specs.Buffers.{Laid, Lays}
+use Rattle.reading.specs.Refusals.{refusalNumber, afterCheck, judgeOf}
+use Rattle.reading.specs.declared.refusal.Refusal.{Refusal}
+use Rattle.reading.specs.declared.refusal.Refusal.the-variants.{TooLong, NotUtf8, NoPlace, TokensShort, StringsShort, ReportsShort}
+use Rattle.reading.specs.declared.judge.Judged.{Judged}
+use Rattle.reading.specs.declared.judge.Judged.the-variants.{Fit, Unfit}
+
+-- a refusal's number is not 0
+pub number-some : (r : Refusal) → eqb (refusalNumber r) 0 ≡ false
+number-some TooLong = refl
+number-some (NotUtf8 n) = refl
+number-some NoPlace = refl
+number-some TokensShort = refl
+number-some StringsShort = refl
+number-some ReportsShort = refl
+
+-- a refusal leaves the buffers as they are
+pub untouched : (r : Refusal) (l : Laid) (T : List ℤ) (S : List ℕ) (R : List ℤ) → Lays (refusalNumber r) l T S R T S R
+untouched r l T S R =
+    let z = number-some r in
+    record { records = rw z; strings = rw z; reports = rw z }
+
+module _ (text : List ℕ) where
+  -- the three answers of the checks, each under its condition
+  pub judge-case : (P : Judged → Type 0) → (maxMessageSize < length text → P (Unfit TooLong))
+      → ((n : ℕ) → length text ≤ maxMessageSize → checkOf text ≡ IllFormed n → P (Unfit (NotUtf8 n)))
+      → (length text ≤ maxMessageSize → checkOf text ≡ WellFormed → P Fit) → P (judgeOf text)
+  unfolding judgeOf
+  judge-case P long ill fit = go (ltb maxMessageSize (length text)) (checkOf text) refl refl
+    where
+      go : (b : Bool) (v : Verdict) → ltb maxMessageSize (length text) ≡ b → checkOf text ≡ v
+          → P (pick b (Unfit TooLong) (afterCheck v (λ n. Unfit (NotUtf8 n)) Fit))
+      go true v p q = long (ltb-true _ _ p)
+      go false (IllFormed n) p q = ill n (ltb-false _ _ p) q
+      go false WellFormed p q = fit (ltb-false _ _ p) q
+
+  -- a text that fits is short enough and well formed
+  pub fitting : judgeOf text ≡ Fit → (length text ≤ maxMessageSize) × (checkOf text ≡ WellFormed)
+  fitting =
+      judge-case (λ (j : Judged). j ≡ Fit → (length text ≤ maxMessageSize) × (checkOf text ≡ WellFormed))
+      (λ _ e. absurd (let z : _≡_ {A = ℕ} 0 1 = cc in omega arith)) (λ n _ _ e. absurd (let z : _≡_ {A = ℕ} 0 1 = cc in omega arith)) (λ h g e. (h, g))
+
+  -- and such a text fits
+  pub fits : length text ≤ maxMessageSize → checkOf text ≡ WellFormed → judgeOf text ≡ Fit
+  unfolding judgeOf
+  fits h g = rw (le-ltb _ _ h, g)
+
+  -- a text that passes the check is well formed by the grammar
+  pub well-octets : checkOf text ≡ WellFormed → Octets text
+  well-octets g = checked text WellFormed (sym g) .whole refl

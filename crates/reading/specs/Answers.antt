@@ -25,7 +25,7 @@ use Rattle.reading.specs.declared.place.PlaceOf.the-variants as place-is
 abbrev pub countsOf : Laid → ReadText
 countsOf l = text-is.Counts (length (l .records)) (length (l .strings)) (length (l .reports))
 
--- buffers of nt numbers, ns bytes and nr numbers
+-- the answer where buffers of nt numbers, ns bytes and nr numbers are lent: "Text calls check 1, 2, 3, 4, 5, 6"
 unfoldable pub readTextAnswer : Reading → ℕ → List ℕ → ℕ → ℕ → ℕ → ReadText
 readTextAnswer m limit text nt ns nr =
     let l = wholeLaid m limit text in
@@ -48,6 +48,7 @@ unfoldable pub isPlace : List ℕ → Place → Bool
 isPlace text p =
     goodOffset text (p .offset) && (eqb (p .line) (placeAt text (p .offset) .line) && eqb (p .column) (placeAt text (p .offset) .column))
 
+-- the answer from the place p, where such buffers are lent
 unfoldable pub readTokenAnswer : Reading → ℕ → List ℕ → Place → ℕ → ℕ → ℕ → ReadToken
 readTokenAnswer m limit text p nt ns nr =
     let l = oneLaid m limit text (p .offset) in
@@ -57,6 +58,7 @@ readTokenAnswer m limit text p nt ns nr =
     (token-is.One (length (l .strings)) (length (l .reports)) (nextToken m limit text (p .offset) .end)))
     (token-is.Refused NoPlace))
 
+-- its number
 abbrev pub readTokenNumber : ReadToken → ℕ
 readTokenNumber (token-is.One s r p) = 0
 readTokenNumber (token-is.Refused r) = refusalNumber r
@@ -68,14 +70,17 @@ readTokenValues (token-is.Refused r) = refusalValues r
 
 -- ---- the place of an offset
 
+-- the answer; no buffer is lent, so checks 1, 2 and 3 are all
 unfoldable pub placeOfAnswer : List ℕ → ℕ → PlaceOf
 placeOfAnswer text offset =
     afterJudge (judgeOf text) place-is.Refused (pick (goodOffset text offset) (place-is.At (placeAt text offset)) (place-is.Refused NoPlace))
 
+-- its number
 abbrev pub placeOfNumber : PlaceOf → ℕ
 placeOfNumber (place-is.At p) = 0
 placeOfNumber (place-is.Refused r) = refusalNumber r
 
+-- its values: the place's numbers
 abbrev pub placeOfValues : PlaceOf → List ℕ
 placeOfValues (place-is.At p) = p .offset ∷ p .line ∷ p .column ∷ []
 placeOfValues (place-is.Refused r) = refusalValues r

@@ -34,6 +34,7 @@ pub record Held : Type 0 where
   pub strings : List ℕ
   pub reports : List ℤ
 
+-- rows of numbers, one after the other
 abbrev flat : List (List ℤ) → List ℤ
 flat [] = []
 flat (r ∷ rs) = r ++ flat rs
@@ -42,6 +43,7 @@ flat (r ∷ rs) = r ++ flat rs
 abbrev pub wanted : Case → Held
 wanted c = record { records = flat (c .tokens); strings = c .strings; reports = flat (c .reports) }
 
+-- what is laid, as it is stored
 abbrev stored : Laid → Held
 stored l = record { records = recordRows (l .records); strings = l .strings; reports = reportRows (l .reports) }
 

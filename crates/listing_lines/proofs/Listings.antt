@@ -33,7 +33,7 @@ use Rattle.listing_lines.proofs.Fills.{whole-fills, short-out}
 use Rattle.listing_lines.proofs.Lines.{rows-held}
 
 -- an answer accepts, or its number is not 0
-pub answered : (r : ReadText) → ((n : ℕ) × (s : ℕ) × (k : ℕ) × (r ≡ text-is.Counts n s k)) ⊎ (eqb (readTextNumber r) 0 ≡ false)
+answered : (r : ReadText) → ((n : ℕ) × (s : ℕ) × (k : ℕ) × (r ≡ text-is.Counts n s k)) ⊎ (eqb (readTextNumber r) 0 ≡ false)
 answered (text-is.Counts n s k) = inl (n, s, k, refl)
 answered (text-is.Refused x) = inr (number-some x)
 

@@ -7,7 +7,6 @@ use mathlib.Core.List.{List, [], _∷_, _++_, map}
 use Prim.Native.Nat.{ℕ, _+_, _*_, _≤_}
 use native.Mathlib.Nat.{pos-of-ne-zero}
 use native.Mathlib.Omega.{arith}
-use lib.Dec.{ltb}
 use lib.IntN.{ℤ}
 use lib.ListN.{length, drop}
 use lib.Seq.{take-at}
@@ -36,14 +35,8 @@ use Rattle.lexer.specs.declared.reading.Reading.{Reading}
 use Rattle.lexer.proofs.Founds.{next-utf8}
 use Rattle.reading.specs.Tokens.{tokensFrom, tokens}
 use Rattle.reading.specs.Buffers.{recordOf, recordsOf, stringsOf, reportsOf, recordRows, reportRows, Laid, laidFrom, wholeLaid, oneLaid}
-use Rattle.reading.specs.Refusals.{judgeOf, afterJudge}
-use Rattle.reading.specs.Answers.{isPlace, readTokenAnswer}
+use Rattle.reading.specs.Answers.{isPlace}
 use Rattle.reading.specs.Chain.{ofOne, Call, withValue, movedBy, Calls, last, more, ChainGivesWhole, ChainRuns}
-use Rattle.reading.specs.declared.judge.Judged.{Judged}
-use Rattle.reading.specs.declared.judge.Judged.the-variants.{Fit, Unfit}
-use Rattle.reading.specs.declared.refusal.Refusal.the-variants.{NoPlace, TokensShort, StringsShort, ReportsShort}
-use Rattle.reading.specs.declared.one.ReadToken.{ReadToken}
-use Rattle.reading.specs.declared.one.ReadToken.the-variants.{One, Refused}
 use Rattle.reading.proofs.Nexts.{Read, reads, end-offset}
 use Rattle.reading.proofs.From.{from-eof, from-more, by-tokens}
 use Rattle.reading.proofs.Rows.{same-record, same-reports, report-rows-length, notes-rows, one-strings, one-reports}
@@ -51,6 +44,7 @@ use Rattle.reading.proofs.Fits.{string-size-le}
 use Rattle.reading.proofs.Refusals.{fits}
 use Rattle.reading.proofs.Places.{place-is, is-place}
 use Rattle.reading.proofs.Ones.{done}
+use Rattle.reading.proofs.Uses.{one-answer}
 
 -- two layings are equal where their parts are
 same-laid : {a b : Laid} → a .records ≡ b .records → a .strings ≡ b .strings → a .reports ≡ b .reports → a ≡ b
@@ -58,17 +52,6 @@ same-laid {a} {b} p q r =
     ap (λ (x : List Record). record { records = x; strings = a .strings; reports = a .reports }) p
     ∙ ap (λ (x : List ℕ). record { records = b .records; strings = x; reports = a .reports }) q
     ∙ ap (λ (x : List Report). record { records = b .records; strings = b .strings; reports = x }) r
-
--- an answer that is no refusal is what stands at the end of the tests
-accepted : {s k : ℕ} {q : Place} {a : ReadToken} (j : Judged) (c d e f : Bool)
-    → One s k q ≡ afterJudge j Refused (pick c (pick d (Refused TokensShort) (pick e (Refused StringsShort) (pick f (Refused ReportsShort) a))) (Refused NoPlace))
-    → One s k q ≡ a
-accepted (Unfit x) c d e f h = cc
-accepted Fit false d e f h = cc
-accepted Fit true true e f h = cc
-accepted Fit true false true f h = cc
-accepted Fit true false false true h = cc
-accepted Fit true false false false h = h
 
 module _ (m : Reading) (limit : ℕ) (text : List ℕ) where
   -- the token after a place
@@ -90,12 +73,11 @@ module _ (m : Reading) (limit : ℕ) (text : List ℕ) where
     end : q ≡ token p .end
 
   given : {p q : Place} {r : Record} {bytes : List ℕ} {reports : List Report} → Call m limit text p (ofOne r bytes reports) q → Given p r bytes reports q
-  unfolding readTokenAnswer recordsOf recordRows token stringAt reportsAt
+  unfolding recordsOf recordRows token stringAt reportsAt
   given {p} {q} {r} {bytes} {reports} c =
       let t : Token = nextToken m limit text (p .offset) in
       let l : Laid = oneLaid m limit text (p .offset) in
-      let e : One (c .s) (c .k) q ≡ One (length (l .strings)) (length (l .reports)) (t .end) =
-      accepted (judgeOf text) (isPlace text p) (ltb (length (c .T)) recordWidth) (ltb (length (c .S)) (length (l .strings))) (ltb (length (c .R)) (length (l .reports) * reportWidth)) (c .reads .answer) in
+      let e = one-answer m limit text p (length (c .T)) (length (c .S)) (length (c .R)) (c .reads .answer) in
       let es : length (l .strings) ≡ c .s = cc in
       let ek : c .k ≡ length (l .reports) = cc in
       let n : length (reportRows (l .reports)) ≡ c .k * reportWidth = rw ek (report-rows-length (l .reports)) in

@@ -1,23 +1,26 @@
--- The refusals: their numbers are not 0, a refused call lays nothing, and what the checks that every call begins with say of the text. By cases on
--- the refusal and on the two tests. Assumes nothing.
+-- The refusals: their numbers are not 0, a refused call lays nothing, and each check refuses under its condition: what holds of every refusal that
+-- can come and of what stands behind the checks, holds of the answer. By cases on the refusal and on the tests. Assumes nothing.
 use mathlib.Core.Path.{_≡_, refl, sym}
 use mathlib.Core.Bool.{Bool, true, false}
 use mathlib.Core.List.{List}
-use Prim.Native.Nat.{ℕ, _≤_, _<_}
+use Prim.Native.Nat.{ℕ, _*_, _≤_, _<_}
 use native.Mathlib.Omega.{arith}
 use lib.Dec.{ltb, eqb}
 use lib.IntN.{ℤ}
 use lib.ListN.{length}
 use borrow.Author.Tests.{ltb-true, ltb-false, le-ltb}
 use Rattle.base.specs.Choice.{pick}
+use Rattle.base.proofs.Tests.{pick-case}
 use Rattle.limits.specs.Limits.{maxMessageSize}
 use Rattle.utf8.specs.Grammar.{Octets}
 use Rattle.utf8.specs.Check.{checkOf}
 use Rattle.utf8.specs.declared.check.Verdict.{Verdict}
 use Rattle.utf8.specs.declared.check.Verdict.the-variants.{WellFormed, IllFormed}
 use Rattle.utf8.proofs.Valid.{checked}
+use Rattle.token.specs.Layout.{recordWidth, reportWidth}
 use Rattle.reading.specs.Buffers.{Laid, Lays}
-use Rattle.reading.specs.Refusals.{refusalNumber, afterCheck, judgeOf}
+use Rattle.reading.specs.Passes.{Room}
+use Rattle.reading.specs.Refusals.{refusalNumber, afterCheck, judgeOf, afterJudge, afterRoom}
 use Rattle.reading.specs.declared.refusal.Refusal.{Refusal}
 use Rattle.reading.specs.declared.refusal.Refusal.the-variants.{TooLong, NotUtf8, NoPlace, TokensShort, StringsShort, ReportsShort}
 use Rattle.reading.specs.declared.judge.Judged.{Judged}
@@ -66,3 +69,23 @@ module _ (text : List ℕ) where
   -- a text that passes the check is well formed by the grammar
   pub well-octets : checkOf text ≡ WellFormed → Octets text
   well-octets g = checked text WellFormed (sym g) .whole refl
+
+module _ {A : Type 0} (P : A → Type 0) (refuse : Refusal → A) {a : A} where
+  -- after checks 1 and 2
+  pub judged-case : (text : List ℕ) → ((x : Refusal) → judgeOf text ≡ Unfit x → P (refuse x)) → (judgeOf text ≡ Fit → P a)
+      → P (afterJudge (judgeOf text) refuse a)
+  judged-case text unfit fit = go (judgeOf text) refl
+    where
+      go : (j : Judged) → judgeOf text ≡ j → P (afterJudge j refuse a)
+      go (Unfit x) e = unfit x e
+      go Fit e = fit e
+
+  -- after checks 4, 5 and 6
+  pub room-case : (l : Laid) (nt ns nr : ℕ) → (nt < length (l .records) * recordWidth → P (refuse TokensShort))
+      → (ns < length (l .strings) → P (refuse StringsShort)) → (nr < length (l .reports) * reportWidth → P (refuse ReportsShort))
+      → (Room l nt ns nr → P a) → P (afterRoom l nt ns nr refuse a)
+  room-case l nt ns nr tokens strings reports accepted =
+      pick-case P (ltb nt (length (l .records) * recordWidth)) (λ e. tokens (ltb-true _ _ e))
+      (λ t. pick-case P (ltb ns (length (l .strings))) (λ e. strings (ltb-true _ _ e))
+      (λ s. pick-case P (ltb nr (length (l .reports) * reportWidth)) (λ e. reports (ltb-true _ _ e))
+      (λ r. accepted (record { for-tokens = ltb-false _ _ t; for-strings = ltb-false _ _ s; for-reports = ltb-false _ _ r }))))

@@ -1,14 +1,12 @@
 -- What a caller learns from an answer: no number that it gives is past 67,108,865, and what an accepted call counts lies in its
 -- buffers. By cases on the tests. Assumes nothing.
 use mathlib.Core.Path.{_≡_, refl, sym, ap, _∙_}
-use mathlib.Core.Bool.{Bool, true, false}
 use mathlib.Core.List.{List, _∷_}
 use Prim.Native.Nat.{ℕ, zero, suc, _+_, _*_, _≤_, zero-le}
 use native.Mathlib.Omega.{arith}
-use lib.Dec.{ltb}
 use lib.IntN.{ℤ}
 use lib.ListN.{length, drop, getD, length-append}
-use Rattle.base.specs.Choice.{pick}
+use Rattle.base.proofs.Tests.{pick-case}
 use Rattle.limits.specs.Limits.{maxMessageSize}
 use Rattle.token.specs.Layout.{recordWidth, reportWidth}
 use Rattle.token.specs.Place.{placeAt}
@@ -21,24 +19,24 @@ use Rattle.lexer.specs.declared.next.Token.{Token}
 use Rattle.lexer.specs.declared.reading.Reading.{Reading}
 use Rattle.reading.specs.Tokens.{tokens}
 use Rattle.reading.specs.Buffers.{recordsOf, recordRows, reportRows, Laid, wholeLaid, oneLaid, Lays}
-use Rattle.reading.specs.Refusals.{refusalValues, judgeOf, afterJudge, goodOffset}
+use Rattle.reading.specs.Refusals.{refusalValues, judgeOf, goodOffset}
 use Rattle.reading.specs.Answers.{isPlace, readTextAnswer, readTextValues, readTokenAnswer, readTokenValues, placeOfAnswer, placeOfValues}
 use Rattle.reading.specs.Claim as claim
 use Rattle.reading.specs.Claim.{Each}
 use Rattle.reading.specs.Calls.{ReadsText, ReadsToken}
 use Rattle.reading.specs.declared.judge.Judged.{Judged}
-use Rattle.reading.specs.declared.judge.Judged.the-variants.{Fit, Unfit}
+use Rattle.reading.specs.declared.judge.Judged.the-variants.{Unfit}
 use Rattle.reading.specs.declared.refusal.Refusal.{Refusal}
-use Rattle.reading.specs.declared.refusal.Refusal.the-variants.{NoPlace, TokensShort, StringsShort, ReportsShort}
 use Rattle.reading.specs.declared.one.ReadToken.{ReadToken}
 use Rattle.reading.specs.declared.one.ReadToken.the-variants as one
+use Rattle.reading.specs.declared.place.PlaceOf.{PlaceOf}
 use Rattle.reading.specs.declared.place.PlaceOf.the-variants as place
 use Rattle.reading.specs.declared.text.ReadText.{ReadText}
 use Rattle.reading.specs.declared.text.ReadText.the-variants as text-is
 use Rattle.reading.proofs.Nexts.{reads}
 use Rattle.reading.proofs.Fits.{string-size-le, strings-fit, reports-fit, tokens-fit}
 use Rattle.reading.proofs.Places.{place-is, good-in}
-use Rattle.reading.proofs.Refusals.{judge-case, fitting}
+use Rattle.reading.proofs.Refusals.{judge-case, fitting, judged-case, room-case}
 use Rattle.reading.proofs.Rows.{records-length, record-rows-length, report-rows-length, one-strings, one-count}
 
 -- at most 67,108,865
@@ -74,56 +72,49 @@ module _ (m : Reading) (limit : ℕ) (text : List ℕ) (nt ns nr : ℕ) where
   unfolding readTextAnswer
   text-small =
       let l = wholeLaid m limit text in
-      go (judgeOf text) (ltb nt (length (l .records) * recordWidth)) (ltb ns (length (l .strings))) (ltb nr (length (l .reports) * reportWidth)) refl
-    where
-      go : (j : Judged) (c d e : Bool) → judgeOf text ≡ j
-          → Each AtMost (readTextValues (afterJudge j text-is.Refused (pick c (text-is.Refused TokensShort) (pick d (text-is.Refused StringsShort) (pick e (text-is.Refused ReportsShort) (text-is.Counts (length (wholeLaid m limit text .records)) (length (wholeLaid m limit text .strings)) (length (wholeLaid m limit text .reports))))))))
-      go (Unfit x) c d e j = unfit-small text x j
-      go Fit true d e j = claim.none
-      go Fit false true e j = claim.none
-      go Fit false false true j = claim.none
-      go Fit false false false j =
-          let h = fitting text j .0 in
-          three _ _ _ (omega (arith, records-length 0 (tokens m limit text), tokens-fit m limit text)) (omega (arith, strings-fit m limit text)) (omega (arith, reports-fit m limit text)) claim.none
+      let P : ReadText → Type 0 = λ (r : ReadText). Each AtMost (readTextValues r) in
+      judged-case P text-is.Refused text (unfit-small text)
+      (λ j. room-case P text-is.Refused l nt ns nr (λ _. claim.none) (λ _. claim.none) (λ _. claim.none)
+      (λ _.
+      let h = fitting text j .0 in
+      three (length (l .records)) (length (l .strings)) (length (l .reports)) (omega (arith, records-length 0 (tokens m limit text), tokens-fit m limit text))
+      (omega (arith, strings-fit m limit text)) (omega (arith, reports-fit m limit text)) claim.none))
 
   pub token-small : (p : Place) → Each AtMost (readTokenValues (readTokenAnswer m limit text p nt ns nr))
-  unfolding readTokenAnswer recordsOf
+  unfolding readTokenAnswer
   token-small p =
       let l = oneLaid m limit text (p .offset) in
-      go (judgeOf text) (isPlace text p) (ltb nt (length (l .records) * recordWidth)) (ltb ns (length (l .strings))) (ltb nr (length (l .reports) * reportWidth)) refl refl
-    where
-      go : (j : Judged) (f c d e : Bool) → judgeOf text ≡ j → isPlace text p ≡ f
-          → Each AtMost (readTokenValues (afterJudge j one.Refused (pick f (pick c (one.Refused TokensShort) (pick d (one.Refused StringsShort) (pick e (one.Refused ReportsShort) (one.One (length (oneLaid m limit text (p .offset) .strings)) (length (oneLaid m limit text (p .offset) .reports)) (nextToken m limit text (p .offset) .end))))) (one.Refused NoPlace))))
-      go (Unfit x) f c d e j g = unfit-small text x j
-      go Fit false c d e j g = claim.none
-      go Fit true true d e j g = claim.none
-      go Fit true false true e j g = claim.none
-      go Fit true false false true j g = claim.none
-      go Fit true false false false j g =
-          let t : Token = nextToken m limit text (p .offset) in
-          let h = fitting text j .0 in
-          let r = reads m limit text (p .offset) (place-is text p g .inside) in
-          let w = place-moved text (t .end .offset) (r .inside) in
-          let line : t .end .line ≡ placeAt text (t .end .offset) .line = ap (λ (x : Place). x .line) (r .end-true) in
-          let column : t .end .column ≡ placeAt text (t .end .offset) .column = ap (λ (x : Place). x .column) (r .end-true) in
-          let z = string-size-le (t .kind) (t .size) in
-          three 1 _ _ (omega arith) (omega (arith, ap length (one-strings m limit text t), r .string, r .size-in, r .inside)) (omega (arith, one-count m limit text t, r .notes, r .reports-in, r .inside))
-          (three (t .end .offset) (t .end .line) (t .end .column) (omega (arith, r .inside)) (omega (arith, r .inside, w .line)) (omega (arith, r .inside, w .column)) claim.none)
+      let P : ReadToken → Type 0 = λ (r : ReadToken). Each AtMost (readTokenValues r) in
+      judged-case P one.Refused text (unfit-small text)
+      (λ j. pick-case P (isPlace text p)
+      (λ g. room-case P one.Refused l nt ns nr (λ _. claim.none) (λ _. claim.none) (λ _. claim.none)
+      (λ _.
+      let t : Token = nextToken m limit text (p .offset) in
+      let h = fitting text j .0 in
+      let r = reads m limit text (p .offset) (place-is text p g .inside) in
+      let w = place-moved text (t .end .offset) (r .inside) in
+      let line : t .end .line ≡ placeAt text (t .end .offset) .line = ap (λ (x : Place). x .line) (r .end-true) in
+      let column : t .end .column ≡ placeAt text (t .end .offset) .column = ap (λ (x : Place). x .column) (r .end-true) in
+      let z = string-size-le (t .kind) (t .size) in
+      three 1 (length (l .strings)) (length (l .reports)) (omega arith)
+      (omega (arith, ap length (one-strings m limit text t), r .string, r .size-in, r .inside))
+      (omega (arith, one-count m limit text t, r .notes, r .reports-in, r .inside))
+      (three (t .end .offset) (t .end .line) (t .end .column) (omega (arith, r .inside)) (omega (arith, r .inside, w .line)) (omega (arith, r .inside, w .column)) claim.none)))
+      (λ _. claim.none))
 
 -- the place of an offset
 pub place-small : (text : List ℕ) (i : ℕ) → Each AtMost (placeOfValues (placeOfAnswer text i))
 unfolding placeOfAnswer
-place-small text i = go (judgeOf text) (goodOffset text i) refl refl
-  where
-    go : (j : Judged) (c : Bool) → judgeOf text ≡ j → goodOffset text i ≡ c
-        → Each AtMost (placeOfValues (afterJudge j place.Refused (pick c (place.At (placeAt text i)) (place.Refused NoPlace))))
-    go (Unfit x) c j f = unfit-small text x j
-    go Fit false j f = claim.none
-    go Fit true j f =
-        let h = fitting text j .0 in
-        let l = good-in text i f in
-        let w = place-moved text i l in
-        three (placeAt text i .offset) (placeAt text i .line) (placeAt text i .column) (omega (arith, w .offset)) (omega (arith, w .line)) (omega (arith, w .column)) claim.none
+place-small text i =
+    let P : PlaceOf → Type 0 = λ (r : PlaceOf). Each AtMost (placeOfValues r) in
+    judged-case P place.Refused text (unfit-small text)
+    (λ j. pick-case P (goodOffset text i)
+    (λ f.
+    let h = fitting text j .0 in
+    let l = good-in text i f in
+    let w = place-moved text i l in
+    three (placeAt text i .offset) (placeAt text i .line) (placeAt text i .column) (omega (arith, w .offset)) (omega (arith, w .line)) (omega (arith, w .column)) claim.none)
+    (λ _. claim.none))
 
 -- ---- what an accepted call counts lies in its buffers
 
@@ -149,16 +140,11 @@ module _ {m : Reading} {limit : ℕ} {text : List ℕ} {T : List ℤ} {S : List 
   pub counted : Counted
   unfolding readTextAnswer
   counted =
-      let l = wholeLaid m limit text in
-      go (judgeOf text) (ltb (length T) (length (l .records) * recordWidth)) (ltb (length S) (length (l .strings))) (ltb (length R) (length (l .reports) * reportWidth)) (sym e ∙ w .answer)
-    where
-      go : (j : Judged) (c d f : Bool)
-          → text-is.Counts n s k ≡ afterJudge j text-is.Refused (pick c (text-is.Refused TokensShort) (pick d (text-is.Refused StringsShort) (pick f (text-is.Refused ReportsShort) (text-is.Counts (length (wholeLaid m limit text .records)) (length (wholeLaid m limit text .strings)) (length (wholeLaid m limit text .reports)))))) → Counted
-      go (Unfit x) c d f q = (cc, cc, cc)
-      go Fit true d f q = (cc, cc, cc)
-      go Fit false true f q = (cc, cc, cc)
-      go Fit false false true q = (cc, cc, cc)
-      go Fit false false false q = (cc, cc, cc)
+      let P : ReadText → Type 0 = λ (x : ReadText). text-is.Counts n s k ≡ x → Counted in
+      judged-case P text-is.Refused text (λ _ _ q. (cc, cc, cc))
+      (λ _. room-case P text-is.Refused (wholeLaid m limit text) (length T) (length S) (length R) (λ _ q. (cc, cc, cc)) (λ _ q. (cc, cc, cc))
+      (λ _ q. (cc, cc, cc)) (λ _ q. (cc, cc, cc)))
+      (sym e ∙ w .answer)
 
   laid : Lays 0 (wholeLaid m limit text) T S R T′ S′ R′
   laid = rw e at (w .lays)
@@ -172,23 +158,22 @@ module _ {m : Reading} {limit : ℕ} {text : List ℕ} {T : List ℤ} {S : List 
   pub reports-inside : k * reportWidth ≤ length R′
   reports-inside = omega (arith, laid-reports laid, counted .2)
 
--- the same of one token
+-- an accepted answer for one token is what stands behind the checks
+pub one-answer : (m : Reading) (limit : ℕ) (text : List ℕ) (p : Place) (nt ns nr : ℕ) {s k : ℕ} {q : Place} → one.One s k q ≡ readTokenAnswer m limit text p nt ns nr
+    → one.One s k q
+    ≡ one.One (length (oneLaid m limit text (p .offset) .strings)) (length (oneLaid m limit text (p .offset) .reports)) (nextToken m limit text (p .offset) .end)
+unfolding readTokenAnswer
+one-answer m limit text p nt ns nr {s} {k} {q} =
+    let l = oneLaid m limit text (p .offset) in
+    let a : ReadToken = one.One (length (l .strings)) (length (l .reports)) (nextToken m limit text (p .offset) .end) in
+    let P : ReadToken → Type 0 = λ (x : ReadToken). one.One s k q ≡ x → one.One s k q ≡ a in
+    judged-case P one.Refused text (λ _ _ h. cc)
+    (λ _. pick-case P (isPlace text p) (λ _. room-case P one.Refused l nt ns nr (λ _ h. cc) (λ _ h. cc) (λ _ h. cc) (λ _ h. h)) (λ _ h. cc))
+
+-- what an accepted call for one token counts lies in its buffers too
 module _ {m : Reading} {limit : ℕ} {text : List ℕ} {p : Place} {T : List ℤ} {S : List ℕ} {R : List ℤ} {r : ReadToken} {T′ : List ℤ} {S′ : List ℕ} {R′ : List ℤ} {s k : ℕ} {q : Place} (w : ReadsToken m limit text p T S R r T′ S′ R′) (e : r ≡ one.One s k q) where
   one-counted : (s ≡ length (oneLaid m limit text (p .offset) .strings)) × (k ≡ length (oneLaid m limit text (p .offset) .reports))
-  unfolding readTokenAnswer
-  one-counted =
-      let l = oneLaid m limit text (p .offset) in
-      go (judgeOf text) (isPlace text p) (ltb (length T) (length (l .records) * recordWidth)) (ltb (length S) (length (l .strings))) (ltb (length R) (length (l .reports) * reportWidth)) (sym e ∙ w .answer)
-    where
-      go : (j : Judged) (f c d g : Bool)
-          → one.One s k q ≡ afterJudge j one.Refused (pick f (pick c (one.Refused TokensShort) (pick d (one.Refused StringsShort) (pick g (one.Refused ReportsShort) (one.One (length (oneLaid m limit text (p .offset) .strings)) (length (oneLaid m limit text (p .offset) .reports)) (nextToken m limit text (p .offset) .end))))) (one.Refused NoPlace))
-          → (s ≡ length (oneLaid m limit text (p .offset) .strings)) × (k ≡ length (oneLaid m limit text (p .offset) .reports))
-      go (Unfit x) f c d g h = (cc, cc)
-      go Fit false c d g h = (cc, cc)
-      go Fit true true d g h = (cc, cc)
-      go Fit true false true g h = (cc, cc)
-      go Fit true false false true h = (cc, cc)
-      go Fit true false false false h = (cc, cc)
+  one-counted = let h = one-answer m limit text p (length T) (length S) (length R) (sym e ∙ w .answer) in (cc, cc)
 
   one-laid : Lays 0 (oneLaid m limit text (p .offset)) T S R T′ S′ R′
   one-laid = rw e at (w .lays)

@@ -17,7 +17,7 @@ pub record Within (s : List ℕ) (r : Lexeme) : Type 0 where
   pub value-in : r .value + r .size ≤ r .len
   pub precision-in : r .precision + r .digits ≤ r .len
   pub reports-in : r .reports ≤ r .len
-  pub reason-in : r .reason ≤ reasons.last
+  pub reason-in : r .reason ≤ reasons.lastIllegal
   pub detail-in : AreBytes s → r .detail < 0x200000
 
 -- the makers' answers
@@ -32,7 +32,7 @@ module _ (s : List ℕ) (k : TokenKind) (n : ℕ) (h : 0 < n) (e : n ≤ length 
   pub bare-within : Within s (bare k n)
   bare-within = extent-within n 0 0 (omega arith) (omega arith)
 
-pub illegal-within : (s : List ℕ) (r d n reports : ℕ) → 0 < n → n ≤ length s → reports ≤ n → r ≤ reasons.last → (AreBytes s → d < 0x200000)
+pub illegal-within : (s : List ℕ) (r d n reports : ℕ) → 0 < n → n ≤ length s → reports ≤ n → r ≤ reasons.lastIllegal → (AreBytes s → d < 0x200000)
     → Within s (illegalReported r d n reports)
 illegal-within s r d n reports h e k i j =
     record { some = h; ends = e; value-in = omega arith; precision-in = omega arith; reports-in = k; reason-in = i; detail-in = j }

@@ -37,7 +37,7 @@ pub record Lexes (r : Reading) (limit : ℕ) (s : List ℕ) (x : Lexeme) : Type 
   pub value-in : x .value + x .size ≤ x .len
   pub precision-in : x .precision + x .digits ≤ x .len
   pub reports-in : x .reports ≤ x .len
-  pub reason-in : x .reason ≤ reasons.last
+  pub reason-in : x .reason ≤ reasons.lastIllegal
   pub detail-in : AreBytes s → x .detail < 0x200000
   -- its string and its reports are as many as it says
   pub string-counted : length (stringIn r s) ≡ stringSize (x .kind) (x .size)

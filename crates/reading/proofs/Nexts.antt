@@ -39,7 +39,7 @@ pub record Read (m : Reading) (limit : ℕ) (text : List ℕ) (at : ℕ) (t : To
   pub precision-in : t .precision ≤ t .end .offset
   pub digits-in : t .digits ≤ t .end .offset
   pub reports-in : t .start .offset + t .reports ≤ t .end .offset
-  pub reason-in : t .reason ≤ reasons.last
+  pub reason-in : t .reason ≤ reasons.lastIllegal
   pub detail-in : AreBytes text → t .detail < 0x200000
   pub ends : t .start .offset + lexemeIn m limit (drop (t .start .offset) text) .len ≡ t .end .offset
   pub string : length (stringIn m (drop (t .start .offset) text)) ≡ stringSize (t .kind) (t .size)

@@ -210,7 +210,7 @@ module _ (s : List ℕ) where
         (goes-then s (goes-over s 110 (omega arith) (omega arith) 2 (and-right x y two))
         (goes-over s 102 (omega arith) (omega arith) 3 (and-right (x && y) z word))))
 
-    sign-on-line : (reason : ℕ) → reason ≤ reasons.last → OnLine s (illegal reason 0 1)
+    sign-on-line : (reason : ℕ) → reason ≤ reasons.lastIllegal → OnLine s (illegal reason 0 1)
     sign-on-line reason h = record { scanned = illegal-scanned s 1 (ends-at 1 (omega arith) sign) reason 0 h (omega arith); flat = sign .flat (flat-none s) }
 
   -- the byte at the front is a sign or a digit

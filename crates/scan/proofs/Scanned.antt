@@ -78,7 +78,7 @@ module _ (s : List ℕ) (n : ℕ) (e : Ends s n) where
   pub whole-scanned : (k : TokenKind) → Plain k → Scanned s (whole k n)
   whole-scanned k p = extent-scanned k 0 n 0 p (omega arith) (omega arith)
 
-  pub illegal-scanned : (reason detail : ℕ) → reason ≤ reasons.last → detail < 0x200000 → Scanned s (illegal reason detail n)
+  pub illegal-scanned : (reason detail : ℕ) → reason ≤ reasons.lastIllegal → detail < 0x200000 → Scanned s (illegal reason detail n)
   unfolding kindNumber
   illegal-scanned reason detail i j =
       let p = plain K.Illegal refl in

@@ -141,12 +141,12 @@ module _ (m : Mode) (s : List ℕ) where
 
 -- ---- bounds
 
-reason-pick : (x w : Bool) (r : ℕ) → r ≤ reasons.openString → pick x (pick w reasons.none reasons.stringNotUtf8) r ≤ reasons.last
+reason-pick : (x w : Bool) (r : ℕ) → r ≤ reasons.openString → pick x (pick w reasons.none reasons.stringNotUtf8) r ≤ reasons.lastIllegal
 reason-pick true true r h = lit≤ tt
 reason-pick true false r h = lit≤ tt
 reason-pick false w r h = omega arith
 
-reason-le : (m : Mode) (d : Decoded) → endReason (d .ending) ≤ reasons.openString → literalReason m d ≤ reasons.last
+reason-le : (m : Mode) (d : Decoded) → endReason (d .ending) ≤ reasons.openString → literalReason m d ≤ reasons.lastIllegal
 unfolding literalReason
 reason-le Strict d h = reason-pick (eqb (endReason (d .ending)) reasons.none) (wellFormed (d .bytes)) (endReason (d .ending)) h
 reason-le Tolerant d h = reason-pick true (wellFormed (d .bytes)) reasons.none (lit≤ tt)

@@ -91,13 +91,17 @@ stringEndedAtNewline = 19
 abbrev pub bytesEndedAtNewline : ℕ
 bytesEndedAtNewline = 20
 
--- the last of them: no token and no report has a greater one
+-- the last of an Illegal token: "19 and 20 are reports only"
+abbrev pub lastIllegal : ℕ
+lastIllegal = badDuration
+
+-- the last of all: no report has a greater one
 abbrev pub last : ℕ
 last = bytesEndedAtNewline
 
--- the reasons of Illegal tokens: "19 and 20 are reports only"
+-- the reasons of Illegal tokens
 abbrev pub ofIllegal : ℕ → Bool
-ofIllegal r = within unexpectedCharacter badDuration r
+ofIllegal r = within unexpectedCharacter lastIllegal r
 
 -- which reason a record has with which kind: "reason 1 to 18 exactly for kind 1, else 0"
 abbrev pub reasonOk : ℕ → ℕ → Bool
@@ -105,5 +109,5 @@ reasonOk kind r = pick (eqb kind illegalNumber) (ofIllegal r) (eqb r none)
 
 -- the same in plain logic
 pub record ReasonRule (kind r : ℕ) : Type 0 where
-  pub illegal : kind ≡ illegalNumber → (unexpectedCharacter ≤ r) × (r ≤ badDuration)
+  pub illegal : kind ≡ illegalNumber → (unexpectedCharacter ≤ r) × (r ≤ lastIllegal)
   pub other : (kind ≡ illegalNumber → ⊥) → r ≡ none

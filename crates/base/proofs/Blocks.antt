@@ -1,5 +1,5 @@
--- Runs a block at a time: bytes that all pass, by a test of their own or with the byte after them, stay in the run, by one byte after the
--- other. Assumes nothing.
+-- For `find` and the searches of utf8, token, scan and strings: runs a block at a time. Bytes that all pass, by a test of their own or with the byte after
+-- them, stay in the run, by one byte after the other. Assumes nothing.
 use mathlib.Core.Path.{_≡_, refl, sym, _∙_}
 use mathlib.Core.Bool.{Bool, true, _&&_, and-assoc, and-true}
 use mathlib.Core.List.{List, [], _∷_}

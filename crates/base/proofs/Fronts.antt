@@ -1,5 +1,5 @@
--- The front of a list whose bytes pass a test: where its run ends, that every list has such a front, and that there is only one. By induction
--- on the list. Assumes nothing.
+-- For the written durations of go_duration: the front of a list whose bytes pass a test. Where its run ends, that every list has such a front, and that there
+-- is only one. By induction on the list. Assumes nothing.
 use mathlib.Core.Path.{_≡_, refl, ap, sym, _∙_}
 use mathlib.Core.Bool.{Bool, true, false}
 use mathlib.Core.List.{List, [], _∷_, _++_}
@@ -8,16 +8,16 @@ use lib.ListN.{length, take, drop}
 use lib.Seq.{take-append-seam, drop-append-seam}
 use Rattle.base.specs.Bytes.{byte, each}
 use Rattle.base.specs.Runs.{run, reach}
-use Rattle.base.proofs.Tests.{and-left, and-right}
+use Rattle.base.proofs.Tests.{and-left, and-right, by-cases}
 
 -- the list begins with a byte that passes
 abbrev pub begins : (ℕ → Bool) → List ℕ → Bool
 begins t [] = false
 begins t (b ∷ s) = t b
 
-pub begins-byte : (t : ℕ → Bool) (l : List ℕ) → t 0 ≡ false → begins t l ≡ false → t (byte l 0) ≡ false
-begins-byte t [] z e = z
-begins-byte t (b ∷ l) z e = e
+pub begins-is : (t : ℕ → Bool) (l : List ℕ) → t 0 ≡ false → t (byte l 0) ≡ begins t l
+begins-is t [] z = z
+begins-is t (b ∷ l) z = refl
 
 -- a list as a front of bytes that pass, as long as can be, and the rest
 pub record Span (t : ℕ → Bool) (s : List ℕ) : Type 0 where
@@ -45,11 +45,11 @@ module _ (t : ℕ → Bool) where
 
   pub span : (s : List ℕ) → Span t s
   span [] = record { front = []; back = []; bytes = refl; passes = refl; stops = refl }
-  span (b ∷ s) = go (t b) refl (span s)
-    where
-      go : (r : Bool) → t b ≡ r → Span t s → Span t (b ∷ s)
-      go true e p = record { front = b ∷ p .front; back = p .back; bytes = ap (λ (l : List ℕ). b ∷ l) (p .bytes); passes = rw e (p .passes); stops = p .stops }
-      go false e p = record { front = []; back = b ∷ s; bytes = refl; passes = refl; stops = e }
+  span (b ∷ s) =
+      let p = span s in
+      by-cases (t b)
+      (λ e. record { front = b ∷ p .front; back = p .back; bytes = ap (λ (l : List ℕ). b ∷ l) (p .bytes); passes = rw e (p .passes); stops = p .stops })
+      (λ e. record { front = []; back = b ∷ s; bytes = refl; passes = refl; stops = e })
 
   module _ (xs ys us vs : List ℕ) (ex : each t xs ≡ true) (ny : begins t ys ≡ false) (eu : each t us ≡ true) (nv : begins t vs ≡ false)
       (same : xs ++ ys ≡ us ++ vs) where

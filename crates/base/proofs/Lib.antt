@@ -5,6 +5,7 @@ pub mod Windows
 pub mod Fronts
 pub mod Walks
 pub mod Stores
+pub mod Storings
 pub mod Signed
 pub mod Tables
 pub mod Words

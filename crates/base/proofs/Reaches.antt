@@ -1,5 +1,5 @@
--- Laws of runs of bytes: an index into the text against the rest that starts there. By induction on the rest. Assumes nothing.
-use mathlib.Core.Path.{_≡_, refl}
+-- For every loop along a run of bytes, in all crates: an index into the text against the rest that starts there. By induction on the rest. Assumes nothing.
+use mathlib.Core.Path.{_≡_, refl, sym, _∙_}
 use mathlib.Core.Bool.{Bool, true, false}
 use mathlib.Core.List.{List, [], _∷_}
 use Prim.Native.Nat.{ℕ, zero, suc, _+_, _-_, _≤_, _<_, zero-le, suc-le-suc}
@@ -11,7 +11,7 @@ use lib.Seq.{drop-cons, getD-drop, take-all}
 use Rattle.base.specs.Choice.{pick}
 use Rattle.base.specs.Bytes.{byte}
 use Rattle.base.specs.Runs.{run, reach}
-use Rattle.base.proofs.Tests.{pick-le}
+use Rattle.base.proofs.Tests.{by-cases, pick-le}
 
 module _ (p : ℕ → ℕ → Bool) where
   pub run-le : (s : List ℕ) → run p s ≤ length s
@@ -61,17 +61,24 @@ module _ (p : ℕ → ℕ → Bool) (s : List ℕ) (i : ℕ) where
   unfolding reach
   reach-le h = omega (arith, run-le p (drop i s), length-drop i s)
 
+-- a loop along a run: the run from i has the end n
+module _ (p : ℕ → ℕ → Bool) (s : List ℕ) (i n : ℕ) (u : reach p s i ≡ n) where
+  pub loop-step : i < length s → p (byte s i) (byte s (i + 1)) ≡ true → reach p s (i + 1) ≡ n
+  loop-step h e = reach-step p s i h e ∙ u
+
+  pub loop-stop : i < length s → p (byte s i) (byte s (i + 1)) ≡ false → i ≡ n
+  loop-stop h e = sym (reach-stop p s i h e) ∙ u
+
+  pub loop-end : length s ≤ i → i ≡ n
+  loop-end h = sym (reach-end p s i h) ∙ u
+
 -- where a run ends before the end of the text, the byte there fails
 pub run-fails : (p : ℕ → ℕ → Bool) (s : List ℕ) → run p s < length s → p (byte s (run p s)) (byte s (run p s + 1)) ≡ false
 unfolding run
 run-fails p [] h = absurd (not-suc-le-zero h)
-run-fails p (a ∷ s) h = go (p a (byte s 0)) refl h (run-fails p s)
-  where
-    go : (b : Bool) → p a (byte s 0) ≡ b → pick b (suc (run p s)) 0 < suc (length s)
-        → (run p s < length s → p (byte s (run p s)) (byte s (run p s + 1)) ≡ false)
-        → p (byte (a ∷ s) (pick b (suc (run p s)) 0)) (byte (a ∷ s) (pick b (suc (run p s)) 0 + 1)) ≡ false
-    go true q l ih = rw (add-one (suc (run p s))) (rw add-one at (ih (le-of-suc-le-suc l)))
-    go false q l ih = q
+run-fails p (a ∷ s) h =
+    by-cases (p a (byte s 0)) (λ q. rw (q, add-one (suc (run p s))) (rw add-one at (run-fails p s (le-of-suc-le-suc (rw q at h)))))
+    (λ q. rw q q)
 
 pub reach-fails : (p : ℕ → ℕ → Bool) (s : List ℕ) (i : ℕ) → reach p s i < length s
     → p (byte s (reach p s i)) (byte s (reach p s i + 1)) ≡ false

@@ -1,4 +1,4 @@
--- Unsigned numbers that are stored as signed ones: below 2^63 the value stays. Assumes nothing.
+-- For the crates that store numbers as i64 (token, notation, listing_lines, pxf): below 2^63 the value stays. By the library's law. Assumes nothing.
 use mathlib.Core.Path.{_≡_}
 use Prim.Native.Nat.{ℕ, _<_}
 use native.Mathlib.Omega.{arith}

@@ -1,12 +1,12 @@
--- Stores into lists, one element after the other: two runs of stores are one, also where the second stores the end of the first again, and a
--- copy is a run of stores. Assumes nothing.
+-- For `store`, `copy` and the crates that write to a lent buffer: stores into lists, one element after the other. Two runs of stores are one, also where the
+-- second stores the end of the first again, and a copy is a run of stores. By induction on the values. Assumes nothing.
 use mathlib.Core.Path.{_≡_, refl, sym, ap, _∙_}
 use mathlib.Core.List.{List, [], _∷_, _++_, append-nil}
 use Prim.Native.Nat.{ℕ, zero, suc, _+_, _≤_, _<_, _-_}
-use native.Mathlib.Nat.{add-zero, sub-zero, zero-add, add-suc, suc-add}
+use native.Mathlib.Nat.{add-zero, zero-add, add-suc, suc-add}
 use native.Mathlib.Omega.{arith}
 use lib.ListN.{length, set, take, drop, getD, length-drop, drop-of-length-le}
-use lib.Seq.{sets, sets-eq, set-set, set-comm, drop-cons, drop-drop, length-take-le, take-add, take-take, drop-length}
+use lib.Seq.{sets, sets-eq, set-set, set-comm, drop-cons, drop-drop, getD-take, getD-drop, length-take-le, take-add, take-take, drop-length}
 use Rattle.base.specs.Buffers.{overlay}
 
 module _ {A : Type 0} where
@@ -58,35 +58,10 @@ module _ {A : Type 0} where
   copy-part d to s start j k n g h r =
       rw (← drop-drop j start s) (sets-part d to (drop start s) j k n g h (rw (length-drop start s) (omega arith)))
 
--- a copy element by element: what is left to copy, stored from here on. `z` is what `getD` gives past the end.
-module _ {A : Type 0} (z : A) where
-  abbrev pub copying : List A → ℕ → List A → ℕ → ℕ → ℕ → List A
-  copying d to s start size k = sets d (to + k) (take (size - k) (drop (start + k) s))
-
-  pub copy-start : (d : List A) (to : ℕ) (s : List A) (start size : ℕ) → copying d to s start size 0 ≡ sets d to (take size (drop start s))
-  copy-start d to s start size = simp (add-zero, sub-zero)
-
-  pub copy-turn : (d : List A) (to : ℕ) (s : List A) (start size k : ℕ) → k < size → start + size ≤ length s
-      → copying (set d (to + k) (getD s (start + k) z)) to s start size (k + 1) ≡ copying d to s start size k
-  copy-turn d to s start size k h r =
-      let e₁ : size - k ≡ suc (size - (k + 1)) = omega arith in
-      let e₂ : start + (k + 1) ≡ suc (start + k) = omega arith in
-      let e₃ : to + (k + 1) ≡ suc (to + k) = omega arith in
-      let i : start + k < length s = omega arith in
-      rw (e₁, e₂, e₃, drop-cons s (start + k) z i)
-
-  pub copy-end : (d : List A) (to : ℕ) (s : List A) (start size k : ℕ) → size ≤ k → copying d to s start size k ≡ d
-  copy-end d to s start size k h =
-      let e : size - k ≡ 0 = omega arith in
-      rw e
-
--- the same of a whole list
+-- a loop of stores: what is left to store, stored from here on, makes the whole. `z` is what `getD` gives past the end.
 module _ {A : Type 0} (z : A) where
   abbrev pub storing : List A → ℕ → List A → ℕ → List A
   storing d to s k = sets d (to + k) (drop k s)
-
-  pub store-start : (d : List A) (to : ℕ) (s : List A) → storing d to s 0 ≡ sets d to s
-  store-start d to s = simp add-zero
 
   pub store-turn : (d : List A) (to : ℕ) (s : List A) (k : ℕ) → k < length s → storing (set d (to + k) (getD s k z)) to s (k + 1) ≡ storing d to s k
   store-turn d to s k h =
@@ -97,12 +72,27 @@ module _ {A : Type 0} (z : A) where
   pub store-end : (d : List A) (to : ℕ) (s : List A) (k : ℕ) → length s ≤ k → storing d to s k ≡ d
   store-end d to s k h = rw (drop-of-length-le s h)
 
+  -- the same of a part of a list, as `copy_bytes` reads it
+  module _ (d : List A) (to : ℕ) (s : List A) (start size k : ℕ) (r : start + size ≤ length s) where
+    part-length : length (take size (drop start s)) ≡ size
+    part-length = length-take-le size (drop start s) (omega (arith, length-drop start s))
+
+    pub copy-turn : k < size
+        → storing (set d (to + k) (getD s (start + k) z)) to (take size (drop start s)) (k + 1) ≡ storing d to (take size (drop start s)) k
+    copy-turn h =
+        let g : getD (take size (drop start s)) k z ≡ getD s (start + k) z = getD-take size (drop start s) k z h ∙ getD-drop start s k z in
+        rw g at (store-turn d to (take size (drop start s)) k (omega (arith, part-length)))
+
+    pub copy-end : size ≤ k → storing d to (take size (drop start s)) k ≡ d
+    copy-end h = store-end d to (take size (drop start s)) k (omega (arith, part-length))
+
 -- a list is another one with values stored from an index on
 pub record Stored {A : Type 0} (l : List A) (i : ℕ) (vs l′ : List A) : Type 0 where
   pub is : l′ ≡ sets l i vs
 
 -- two runs of stores, the second from the end of the first
-pub stored-then : {A : Type 0} {l l₁ l₂ : List A} {i j : ℕ} {vs ws : List A} → Stored l i vs l₁ → j ≡ i + length vs → Stored l₁ j ws l₂ → Stored l i (vs ++ ws) l₂
+pub stored-then : {A : Type 0} {l l₁ l₂ : List A} {i j : ℕ} {vs ws : List A} → Stored l i vs l₁ → j ≡ i + length vs → Stored l₁ j ws l₂
+    → Stored l i (vs ++ ws) l₂
 stored-then {l = l} {i = i} {vs = vs} {ws = ws} p e q = record { is = q .is ∙ rw (e, p .is) (sym (sets-append l i vs ws)) }
 
 -- a list of no elements is empty

@@ -1,4 +1,5 @@
--- A rule over all numbers below a bound, or over all entries of a table, from one test that antt computes. Assumes nothing.
+-- For the scales of go_duration and the first bytes of utf8: a rule over all numbers below a bound, from one test that antt computes. By induction on the
+-- bound. Assumes nothing.
 use mathlib.Core.Bool.{Bool, true, _&&_}
 use mathlib.Core.Logic.{⊎-elim}
 use Prim.Native.Nat.{ℕ, zero, suc, _<_}

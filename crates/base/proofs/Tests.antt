@@ -1,10 +1,11 @@
--- Laws of tests and choices, by cases on the Bool. Assumes nothing.
-use mathlib.Core.Path.{_≡_, refl}
+-- For every crate: laws of tests, choices and ranges. By cases on the Bool. Assumes nothing.
+use mathlib.Core.Path.{_≡_, refl, sym, _∙_}
 use mathlib.Core.Bool.{Bool, true, false, not, _&&_, _||_}
+pub use mathlib.Core.Bool.{and-true, and-false, and-assoc}
 use mathlib.Core.List.{List}
 use Prim.Native.Nat.{ℕ, _≤_, _<_}
 use native.Mathlib.Omega.{arith}
-use borrow.Author.Tests.{le-leb, lt-leb, leb-true, ltb-true, ltb-false, eqb-true, eqb-false}
+use borrow.Author.Tests.{not-true, not-false, le-leb, lt-leb, leb-true, ltb-true, ltb-false, eqb-true, eqb-false}
 use mir.Val.{boolByte}
 use lib.Dec.{T, leb, ltb, eqb}
 use lib.ListN.{length, List·getD-eq-default}
@@ -19,18 +20,6 @@ and-left false b e = e
 pub and-right : (a b : Bool) → a && b ≡ true → b ≡ true
 and-right true b e = e
 and-right false b e = let z : false ≡ true = e in cc
-
-pub and-true : (b : Bool) → b && true ≡ b
-and-true true = refl
-and-true false = refl
-
-pub and-assoc : (a b d : Bool) → (a && b) && d ≡ a && (b && d)
-and-assoc true b d = refl
-and-assoc false b d = refl
-
-pub and-false : (b : Bool) → b && false ≡ false
-and-false true = refl
-and-false false = refl
 
 -- the same of tests as propositions
 pub both-left : (a b : Bool) → T (a && b) → T a
@@ -53,18 +42,33 @@ pub or-right : (a b : Bool) → a || b ≡ false → b ≡ false
 or-right true b e = let z : true ≡ false = e in cc
 or-right false b e = e
 
-pub or-false : (b : Bool) → b || false ≡ b
-or-false true = refl
-or-false false = refl
+-- a test is true or false
+pub by-cases {ℓ} : {X : Type ℓ} (b : Bool) → (b ≡ true → X) → (b ≡ false → X) → X
+by-cases true f g = f refl
+by-cases false f g = g refl
 
--- no test is both true and false
+-- and not both
 pub true-false : {X : Type 0} (b : Bool) → b ≡ true → b ≡ false → X
 true-false b p q = let z : _≡_ {A = ℕ} 0 1 = let w : true ≡ false = cc in cc in absurd (omega arith)
+
+-- two constructors are told apart: `cc` proves 0 ≡ 1 from their equation
+pub zero-one {ℓ} : {X : Type ℓ} → _≡_ {A = ℕ} 0 1 → X
+zero-one e = absurd (omega arith)
 
 pub neither : (a b : Bool) → not (a || b) ≡ true → (a ≡ false) × (b ≡ false)
 neither true b e = true-false false e refl
 neither false true e = true-false false e refl
 neither false false e = (refl, refl)
+
+-- a test by the answer x of a call: as the code tests it, and negated
+pub told : {t b : Bool} (x : Bool) → x ≡ t → x ≡ b → t ≡ b
+told x e f = sym e ∙ f
+
+pub failed : {t : Bool} (x : Bool) → x ≡ t → not x ≡ true → t ≡ false
+failed x e f = sym e ∙ not-true x f
+
+pub passed : {t : Bool} (x : Bool) → x ≡ t → not x ≡ false → t ≡ true
+passed x e f = sym e ∙ not-false x f
 
 -- a choice of one thing alone
 pub pick-same {ℓ} : {A : Type ℓ} (b : Bool) (x : A) → pick b x x ≡ x
@@ -108,35 +112,23 @@ module _ (lo hi x : ℕ) where
 
 -- a test that fails at 0 and passes at the byte at i: i is in the text
 pub in-text : (p : ℕ → Bool) (s : List ℕ) (i : ℕ) → p 0 ≡ false → p (byte s i) ≡ true → i < length s
-in-text p s i z e = go (ltb i (length s)) refl
-  where
-    go : (b : Bool) → ltb i (length s) ≡ b → i < length s
-    go true q = ltb-true i (length s) q
-    go false q =
-        let w : byte s i ≡ 0 = List·getD-eq-default s 0 (ltb-false i (length s) q) in
-        let f : true ≡ false = cc in
-        true-false true refl f
+in-text p s i z e =
+    by-cases (ltb i (length s)) (λ q. ltb-true i (length s) q)
+    (λ q. true-false (p (byte s i)) e (rw (List·getD-eq-default s 0 (ltb-false i (length s) q)) z))
 
 -- the test that a number is outside a range
 pub outside : (lo hi x : ℕ) → ltb x lo || ltb hi x ≡ not (within lo hi x)
-outside lo hi x = go (ltb x lo) (ltb hi x) refl refl
-  where
-    go : (a b : Bool) → ltb x lo ≡ a → ltb hi x ≡ b → a || b ≡ not (within lo hi x)
-    go true b p q = rw (under lo hi x (ltb-true x lo p))
-    go false true p q = rw (over lo hi x (ltb-true hi x q))
-    go false false p q = rw (inside lo hi x (ltb-false x lo p) (ltb-false hi x q))
+outside lo hi x =
+    by-cases (ltb x lo) (λ p. rw (p, under lo hi x (ltb-true x lo p)))
+    (λ p. by-cases (ltb hi x) (λ q. rw (p, q, over lo hi x (ltb-true hi x q)))
+    (λ q. rw (p, q, inside lo hi x (ltb-false x lo p) (ltb-false hi x q))))
 
 -- a range of one number
 pub within-one : (k x : ℕ) → within k k x ≡ eqb x k
-within-one k x = go (eqb x k) refl
-  where
-    go : (b : Bool) → eqb x k ≡ b → within k k x ≡ b
-    go true e = let q = eqb-true x k e in inside k k x (omega arith) (omega arith)
-    go false e = apart (ltb x k) refl
-      where
-        apart : (b : Bool) → ltb x k ≡ b → within k k x ≡ false
-        apart true l = under k k x (ltb-true x k l)
-        apart false l = let h = ltb-false x k l in let d = eqb-false x k e in over k k x (omega arith)
+within-one k x =
+    by-cases (eqb x k) (λ e. let q = eqb-true x k e in rw e (inside k k x (omega arith) (omega arith)))
+    (λ e. let d = eqb-false x k e in by-cases (ltb x k) (λ l. rw e (under k k x (ltb-true x k l)))
+    (λ l. let h = ltb-false x k l in rw e (over k k x (omega arith))))
 
 -- a test as a number
 pub as-number : (t : Bool) → boolByte t ≡ pick t 1 0

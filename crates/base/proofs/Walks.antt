@@ -1,4 +1,5 @@
--- Laws of runs of pieces: where a piece stands at i, the run from its end has the same end. By induction on the rest. Assumes nothing.
+-- For utf8 and scan: runs of pieces, such as characters. Where a piece stands at i, the run from its end has the same end. By induction on
+-- the rest. Assumes nothing.
 use mathlib.Core.Path.{_≡_, ap, _∙_}
 use mathlib.Core.List.{List, [], _∷_}
 use Prim.Native.Nat.{ℕ, zero, suc, _+_, _-_, _≤_, _<_, zero-le, suc-le-suc}

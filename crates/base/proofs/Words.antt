@@ -1,4 +1,4 @@
--- The test whether two lists of bytes are equal, against their equality. Assumes nothing.
+-- For go_duration, scan and token_file: the test whether two lists of bytes are equal, against their equality. By induction on the lists. Assumes nothing.
 use mathlib.Core.Path.{_≡_, refl}
 use mathlib.Core.Bool.{Bool, true, false}
 use mathlib.Core.List.{List, [], _∷_}

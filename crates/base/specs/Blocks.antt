@@ -1,4 +1,4 @@
--- Runs that are tested a block of bytes at a time, or searched a window at a time.
+-- Helper definitions, for proofs and inner contracts alone: runs that are tested a block of bytes at a time, or searched a window at a time.
 use mathlib.Core.Path.{_≡_}
 use mathlib.Core.Bool.{Bool, true, not, _&&_}
 use mathlib.Core.List.{List, [], _∷_}

@@ -1,9 +1,10 @@
--- The test of a digit, which the lexer, the reader of durations and demand 3 share, worked out over all bytes.
+-- Signs as bytes, and the test of a digit, which the lexer, the reader of durations and demand 3 share, worked out over all bytes.
 use mathlib.Core.Path.{_≡_, refl}
 use mathlib.Core.Bool.{Bool, true, false}
 use mathlib.Core.List.{List, [], _∷_, _++_, map}
 use Prim.Native.Nat.{ℕ, zero, suc}
 use lib.ListN.{replicate}
+use Rattle.base.specs.Characters.{ascii}
 use Rattle.base.specs.Bytes.{each}
 use Rattle.base.specs.Classes.{isDigit}
 
@@ -11,6 +12,13 @@ use Rattle.base.specs.Classes.{isDigit}
 abbrev from : ℕ → ℕ → List ℕ
 from n zero = []
 from n (suc k) = n ∷ from (suc n) k
+
+-- the printable ASCII characters are the bytes from 32 to 126, and the control characters that definitions name are these
+pub printable : ascii " !\"#$%&'()*+,-./0123456789:;<=>?@ABCDEFGHIJKLMNOPQRSTUVWXYZ[\\]^_`abcdefghijklmnopqrstuvwxyz{|}~" ≡ from 32 95
+printable = refl
+
+pub controls : ascii "\t\n\r" ≡ 9 ∷ 10 ∷ 13 ∷ []
+controls = refl
 
 -- of the 256 bytes, the ten from `0` (48) to `9` (57) are digits
 pub digits : map isDigit (from 0 256) ≡ replicate 48 false ++ (replicate 10 true ++ replicate 198 false)
@@ -29,16 +37,11 @@ abbrev pub cases : List Case
 cases =
     -- no byte
     (row [] true)
-    -- `7`
-    ∷ (row (55 ∷ []) true)
-    -- `09`
-    ∷ (row (48 ∷ 57 ∷ []) true)
-    -- `a1`
-    ∷ (row (97 ∷ 49 ∷ []) false)
-    -- `1.2`
-    ∷ (row (49 ∷ 46 ∷ 50 ∷ []) false)
-    -- `12a`
-    ∷ (row (49 ∷ 50 ∷ 97 ∷ []) false)
+    ∷ (row (ascii "7") true)
+    ∷ (row (ascii "09") true)
+    ∷ (row (ascii "a1") false)
+    ∷ (row (ascii "1.2") false)
+    ∷ (row (ascii "12a") false)
     ∷ []
 
 -- every row of the table holds

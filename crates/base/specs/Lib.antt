@@ -1,4 +1,5 @@
 pub mod Choice
+pub mod Characters
 pub mod Bytes
 pub mod Classes
 pub mod Runs

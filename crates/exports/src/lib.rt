@@ -2,7 +2,7 @@
 ghost use mathlib.Core.Path.{_≡_};
 ghost use Rattle.go_duration.specs.Parse.{parseOf};
 ghost use Rattle.utf8.specs.Grammar.{validTo};
-ghost use Rattle.exports.specs.Durations.{verdictOf, valueOf};
+ghost use Rattle.exports.specs.Durations.{verdictOf, valueAfter};
 use go_duration::parse::Parsed;
 use utf8::check::Verdict;
 
@@ -21,7 +21,7 @@ pub extern "C" fn utf8_check(text: &[u8]) -> u64
 // 0, and the nanoseconds in `value`, where the run is a duration; else 1, and `value` as it was.
 #[no_mangle]
 pub extern "C" fn duration_parse(run: &[u8], value: &mut [i64; 1]) -> u8
-    ensures { λ r. ⌜ (r ≡ verdictOf (parseOf (now (run .entry)))) × (now (value .exit) ≡ valueOf (parseOf (now (run .entry))) (now (value .entry))) ⌝ }
+    ensures { λ r. ⌜ (r ≡ verdictOf (parseOf (now (run .entry)))) × (now (value .exit) ≡ valueAfter (parseOf (now (run .entry))) (now (value .entry))) ⌝ }
 {
     let parsed = go_duration::parse::parse(run);
     match parsed {

@@ -1,23 +1,21 @@
--- The digits of a fraction by the tests that the code makes: those that are kept, those that are dropped, and the scale. Assumes nothing.
-use mathlib.Core.Path.{_≡_, refl, sym, ap, _∙_, subst}
-use mathlib.Core.Logic.{inl, inr}
-use mathlib.Core.Bool.{Bool, true, false, _&&_}
+-- For the functions of fraction.rt and part.rt: the digits of a fraction by the tests that the code makes, kept or dropped, and as a `Fraction`. By
+-- induction on the list. Assumes nothing.
+use mathlib.Core.Path.{_≡_, refl, sym, ap, _∙_}
+use mathlib.Core.Bool.{true, false, _&&_}
 use mathlib.Core.List.{List, [], _∷_}
-use Prim.Native.Nat.{ℕ, zero, suc, _+_, _≤_, _<_, zero-le}
-use native.Mathlib.Nat.{le-refl, eq-or-lt-of-le, le-of-suc-le-suc, add-zero}
+use Prim.Native.Nat.{ℕ, suc, _+_, _≤_, _<_, zero-le}
+use native.Mathlib.Nat.{le-refl, add-zero}
 use native.Mathlib.Numerals.{add-one}
 use native.Mathlib.Omega.{arith}
 use lib.Dec.{ltb, leb}
-use lib.Ieee.{Float, inf, binary64, mul, ofBits}
 use lib.ListN.{length, drop}
 use lib.Seq.{drop-cons, getD-drop}
 use borrow.Author.Tests.{lt-ltb, le-ltb, leb-true}
-use Rattle.base.specs.Choice.{pick}
 use Rattle.base.specs.Bytes.{byte}
 use Rattle.base.specs.Classes.{isDigit}
 use Rattle.base.specs.Runs.{run, reach}
-use Rattle.base.proofs.Tests.{and-left, and-right, in-text, no-digit, within-low, within-high}
-use Rattle.go_duration.specs.Fraction.{most, scaleOf, ten, more, room, Acc, acc, noDigits, addDigit, readDigits}
+use Rattle.base.proofs.Tests.{and-left, and-right, by-cases, in-text, no-digit, within-low, within-high}
+use Rattle.go_duration.specs.Fraction.{most, scaleOf, more, room, Acc, acc, noDigits, addDigit, readDigits}
 use Rattle.go_duration.specs.Parse.{inDigits}
 use Rattle.go_duration.specs.Stages.{fractionOf, accOf, KeptTo, keepsAt}
 use Rattle.go_duration.specs.declared.fraction.Fraction.{Fraction}
@@ -31,27 +29,19 @@ digit-range b e = (within-low 48 57 b e, within-high 48 57 b e)
 read-over : (l : List ℕ) (f k n : ℕ) → readDigits l (acc f k n true) ≡ acc f k (n + run inDigits l) true
 unfolding readDigits addDigit run
 read-over [] f k n = rw (add-zero n)
-read-over (b ∷ bs) f k n = go (isDigit b) (read-over bs f k (n + 1))
-  where
-    go : (x : Bool) → readDigits bs (acc f k (n + 1) true) ≡ acc f k (n + 1 + run inDigits bs) true
-        → pick x (readDigits bs (acc f k (n + 1) true)) (acc f k n true) ≡ acc f k (n + pick x (suc (run inDigits bs)) 0) true
-    go true h = let z : n + suc (run inDigits bs) ≡ n + 1 + run inDigits bs = omega arith in rw z h
-    go false h = rw (add-zero n)
+read-over (b ∷ bs) f k n =
+    let z : n + suc (run inDigits bs) ≡ n + 1 + run inDigits bs = omega arith in
+    by-cases (isDigit b) (λ e. rw (e, z) (read-over bs f k (n + 1))) (λ e. rw (e, add-zero n))
 
 -- from a byte on that is not kept
 read-stop : (l : List ℕ) (f n : ℕ) → isDigit (byte l 0) && room f (byte l 0) ≡ false
     → readDigits l (acc f n n false) ≡ acc f n (n + run inDigits l) (ltb n (n + run inDigits l))
 unfolding readDigits addDigit run
 read-stop [] f n e = rw (add-zero n, le-ltb n n (le-refl n))
-read-stop (b ∷ bs) f n e = go (isDigit b) e
-  where
-    go : (x : Bool) → x && room f b ≡ false
-        → pick x (readDigits bs (addDigit (acc f n n false) b)) (acc f n n false)
-        ≡ acc f n (n + pick x (suc (run inDigits bs)) 0) (ltb n (n + pick x (suc (run inDigits bs)) 0))
-    go true e =
-        let z : n + suc (run inDigits bs) ≡ n + 1 + run inDigits bs = omega arith in
-        rw (e, z, lt-ltb n (n + 1 + run inDigits bs) (omega arith)) (read-over bs f n (n + 1))
-    go false e = rw (add-zero n, le-ltb n n (le-refl n))
+read-stop (b ∷ bs) f n e =
+    let z : n + suc (run inDigits bs) ≡ n + 1 + run inDigits bs = omega arith in
+    by-cases (isDigit b) (λ d. rw (d, rw d at e, z, lt-ltb n (n + 1 + run inDigits bs) (omega arith)) (read-over bs f n (n + 1)))
+    (λ d. rw (d, add-zero n, le-ltb n n (le-refl n)))
 
 -- ---- the digits that are kept
 pub record Keeps (s : List ℕ) (i f : ℕ) : Type 0 where
@@ -100,44 +90,9 @@ pub kept-zero : (s : List ℕ) (i : ℕ) → KeptTo s i 0 → byte s i ≡ 48 �
 unfolding isDigit
 kept-zero s i u e = rw e at (kept-more s i 0 u (rw e))
 
--- ---- the scale
-
--- 10.0 as MIR has it, by its bit pattern
-pub scale-step : (x : Float) (i : ℕ) → x ≡ scaleOf i → mul binary64 x (ofBits binary64 0x4024_0000_0000_0000) ≡ scaleOf (i + 1)
-unfolding ofBits scaleOf
-scale-step x i e = rw add-one (ap (λ (z : Float). mul binary64 z ten) e)
-
-scale-309 : scaleOf 309 ≡ inf false
-unfolding scaleOf mul
-scale-309 = refl
-
-inf-ten : mul binary64 (inf false) ten ≡ inf false
-unfolding mul
-inf-ten = refl
-
--- from 309 on it is infinite
-infinite : (k : ℕ) → 309 ≤ k → scaleOf k ≡ inf false
-unfolding scaleOf
-infinite zero h = absurd (none h)
-  where
-    none : 309 ≤ 0 → ⊥
-    none h = omega arith
-infinite (suc k) h =
-    elim (eq-or-lt-of-le h) [
-      | inl e ↦ subst (λ (j : ℕ). scaleOf j ≡ inf false) e scale-309
-      | inr l ↦ rw (infinite k (le-of-suc-le-suc l)) inf-ten
-    ]
-
-pub scale-stays : (i k : ℕ) → i ≡ 309 → i ≤ k → scaleOf i ≡ scaleOf k
-scale-stays i k e h = infinite i (omega arith) ∙ sym (infinite k (omega arith))
-
 -- ---- a fraction as the code has it
 pub fraction-is : (d : Fraction) (a : Acc) → accOf d ≡ a → d .scale ≡ scaleOf (d .kept) → d ≡ fractionOf a
-fraction-is d a e s =
-    ap (λ (z : Float). Fraction·made (d .f) (d .kept) (d .count) (d .over) z) s ∙ ap fractionOf e
-  where
-    Fraction·made : ℕ → ℕ → ℕ → Bool → Float → Fraction
-    Fraction·made f k n o x = record { f = f; kept = k; count = n; over = o; scale = x }
+fraction-is d a e s = rw (← e, ← s)
 
 pub scaled : (a : Acc) → fractionOf a .scale ≡ scaleOf (fractionOf a .kept)
 scaled (acc f k n o) = refl

@@ -1,7 +1,7 @@
--- `parseOf` against the form of durations: it accepts a written duration exactly where its total fits under its sign, and what it accepts is a
--- written duration. Assumes nothing.
+-- For WrittenSums and the lexer: `parseOf` against the form of durations. It accepts a written duration exactly where its total fits under its sign, and
+-- what it accepts is a written duration. By the sign, and the sums of WrittenRuns. Assumes nothing.
 use mathlib.Core.Path.{_≡_, refl, ap, sym, _∙_}
-use mathlib.Core.Bool.{Bool, true, false, _||_}
+use mathlib.Core.Bool.{Bool, true, false}
 use mathlib.Core.List.{List, [], _∷_}
 use Prim.Native.Nat.{ℕ, _+_, _≤_, _<_, zero-le}
 use native.Mathlib.Nat.{zero-add, not-suc-le-zero}
@@ -14,10 +14,10 @@ use lib.ListN.{length, drop, length-append, length-drop}
 use Rattle.base.specs.Choice.{pick}
 use Rattle.base.specs.Bytes.{byte, sameBytes}
 use Rattle.base.specs.Classes.{isDigit}
-use Rattle.base.proofs.Tests.{true-false, pick-first, pick-second}
+use Rattle.base.proofs.Tests.{by-cases, true-false, pick-first, pick-second}
 use Rattle.base.proofs.Words.{same-eq}
 use Rattle.go_duration.specs.Fraction.{most}
-use Rattle.go_duration.specs.Parse.{sumFrom, signOf, finish, unsigned, parseOf}
+use Rattle.go_duration.specs.Parse.{sumFrom, signOf, withSign, unsigned, parseOf}
 use Rattle.go_duration.specs.Written.{WrittenPart, partBytes, Parts, none, more, Duration, totalOf, Accepted}
 use Rattle.go_duration.specs.declared.parse.Total.{Total}
 use Rattle.go_duration.specs.declared.parse.Total.the-variants as total
@@ -31,11 +31,7 @@ use Rattle.go_duration.proofs.WrittenRuns.{bounded, parts-begin, sum-is
 -- parts begin with no sign
 no-sign : (x : ℕ) (l : List ℕ) → eqb 0 x ≡ false → unitByte x ≡ true → begins unitByte l ≡ false → eqb (byte l 0) x ≡ false
 no-sign x [] z u e = z
-no-sign x (b ∷ l) z u e = go (eqb b x) refl
-  where
-    go : (r : Bool) → eqb b x ≡ r → eqb b x ≡ false
-    go true q = true-false (unitByte x) u (rw (eqb-true b x q) at e)
-    go false q = q
+no-sign x (b ∷ l) z u e = by-cases (eqb b x) (λ q. true-false (unitByte x) u (rw (eqb-true b x q) at e)) (λ q. q)
 
 minus : isDigit 45 ≡ false
 unfolding isDigit
@@ -46,7 +42,7 @@ unfolding isDigit
 plus = refl
 
 module _ (neg : Bool) (ps : List WrittenPart) (run : List ℕ) (w : Duration neg ps run) where
-  pub sign-is : eqb (byte run 0) 45 ≡ neg
+  sign-is : eqb (byte run 0) 45 ≡ neg
   sign-is = rw (w .bytes) (go neg)
     where
       go : (b : Bool) → eqb (byte (pick b (45 ∷ w .rest) (w .rest)) 0) 45 ≡ b
@@ -68,57 +64,56 @@ parts-size none h = absurd (not-suc-le-zero h)
 parts-size (more {p = p} {s = s} i q) h = omega (arith, part-size p i, length-append (partBytes p) s)
 
 -- which `0` alone has not
-pub not-zero : (l : List ℕ) → 1 < length l → sameBytes l (48 ∷ []) ≡ false
-not-zero l h = go (sameBytes l (48 ∷ [])) refl
-  where
-    go : (r : Bool) → sameBytes l (48 ∷ []) ≡ r → sameBytes l (48 ∷ []) ≡ false
-    go true q = absurd (omega (arith, ap length (same-eq l (48 ∷ []) q)))
-    go false q = q
+not-zero : (l : List ℕ) → 1 < length l → sameBytes l (48 ∷ []) ≡ false
+not-zero l h = by-cases (sameBytes l (48 ∷ [])) (λ q. absurd (omega (arith, ap length (same-eq l (48 ∷ []) q)))) (λ q. q)
 
-finish-is : (neg : Bool) (n : ℕ) → finish neg (bounded n) ≡ pick (leb (pick neg n (n + 1)) most) (parsed.Nanos (signOf neg n)) parsed.Bad
-unfolding finish
+finish-is : (neg : Bool) (n : ℕ) → withSign neg (bounded n) ≡ pick (leb (pick neg n (n + 1)) most) (parsed.Nanos (signOf neg n)) parsed.Bad
+unfolding withSign
 finish-is neg n = go neg (ltb most n) refl
   where
     go : (b r : Bool) → ltb most n ≡ r
-        → finish b (pick r total.Bad (total.Sum n)) ≡ pick (leb (pick b n (n + 1)) most) (parsed.Nanos (signOf b n)) parsed.Bad
+        → withSign b (pick r total.Bad (total.Sum n)) ≡ pick (leb (pick b n (n + 1)) most) (parsed.Nanos (signOf b n)) parsed.Bad
     go true true q = rw (lt-leb n most (ltb-true most n q))
     go true false q = rw (le-leb n most (ltb-false most n q))
     go false true q = rw (lt-leb (n + 1) most (let h = ltb-true most n q in omega arith))
     go false false q = rw add-one
 
-module _ (neg : Bool) (ps : List WrittenPart) (run : List ℕ) (w : Duration neg ps run) where
+bad-nanos : {z : ℤ} → parsed.Bad ≡ parsed.Nanos z → ⊥
+bad-nanos e = let n : _≡_ {A = ℕ} 0 1 = cc in omega arith
+
+module _ (neg : Bool) (ps : List WrittenPart) (run : List ℕ) where
+  -- what has to be at most 2^63
+  abbrev top : ℕ
+  top = pick neg (totalOf ps) (totalOf ps + 1)
+
   -- what `parseOf` makes of a written duration
-  pub parse-is : parseOf run ≡ pick (leb (pick neg (totalOf ps) (totalOf ps + 1)) most) (parsed.Nanos (signOf neg (totalOf ps))) parsed.Bad
+  parse-is : Duration neg ps run → parseOf run ≡ pick (leb top most) (parsed.Nanos (signOf neg (totalOf ps))) parsed.Bad
   unfolding parseOf
-  parse-is =
+  parse-is w =
       let h = parts-size (w .parts) (w .some) in
       rw (rest-is neg ps run w, not-zero (w .rest) h, ne-eqb (length (w .rest)) 0 (omega arith), sign-is neg ps run w, sum-is (w .parts) 0 zero-le, zero-add)
       (finish-is neg (totalOf ps))
 
--- completeness: what is written and fits is accepted, with its total under its sign
-pub complete : (neg : Bool) (ps : List WrittenPart) (run : List ℕ) → Accepted neg ps run → parseOf run ≡ parsed.Nanos (signOf neg (totalOf ps))
-complete neg ps run a = rw (parse-is neg ps run (a .form), le-leb (pick neg (totalOf ps) (totalOf ps + 1)) most (a .bound))
+  -- completeness: what is written and fits is accepted, with its total under its sign
+  pub complete : Accepted neg ps run → parseOf run ≡ parsed.Nanos (signOf neg (totalOf ps))
+  complete a = rw (parse-is (a .form), le-leb top most (a .bound))
 
--- and what does not fit is refused
-pub refused : (neg : Bool) (ps : List WrittenPart) (run : List ℕ) → Duration neg ps run → (pick neg (totalOf ps) (totalOf ps + 1) ≤ most → ⊥)
-    → parseOf run ≡ parsed.Bad
-refused neg ps run w h = rw (parse-is neg ps run w, lt-leb (pick neg (totalOf ps) (totalOf ps + 1)) most (omega arith))
+  -- and what does not fit is refused
+  pub refused : Duration neg ps run → (top ≤ most → ⊥) → parseOf run ≡ parsed.Bad
+  refused w h = rw (parse-is w, lt-leb top most (omega arith))
+
+  -- the value of an accepted duration
+  pub value-is : (z : ℤ) → Duration neg ps run → parseOf run ≡ parsed.Nanos z → Accepted neg ps run × (z ≡ signOf neg (totalOf ps))
+  value-is z w e =
+      let h = pick-first (leb top most) bad-nanos (sym (parse-is w) ∙ e) in
+      let v = h .1 in
+      (record { form = w; bound = leb-true top most (h .0) }, cc)
 
 -- ---- what is accepted is a written duration
-bad-nanos : {z : ℤ} → parsed.Bad ≡ parsed.Nanos z → ⊥
-bad-nanos e = let n : _≡_ {A = ℕ} 0 1 = cc in omega arith
-
--- the value of an accepted duration
-pub value-is : (neg : Bool) (ps : List WrittenPart) (run : List ℕ) (z : ℤ) → Duration neg ps run → parseOf run ≡ parsed.Nanos z
-    → Accepted neg ps run × (z ≡ signOf neg (totalOf ps))
-value-is neg ps run z w e =
-    let h = pick-first (leb (pick neg (totalOf ps) (totalOf ps + 1)) most) bad-nanos (sym (parse-is neg ps run w) ∙ e) in
-    let v = h .1 in
-    (record { form = w; bound = leb-true (pick neg (totalOf ps) (totalOf ps + 1)) most (h .0) }, cc)
 
 -- a sum, where the run after the sign is no `0` alone
 module _ (run : List ℕ) (z : ℤ) (e : parseOf run ≡ parsed.Nanos z) (n : sameBytes (unsigned run) (48 ∷ []) ≡ false) where
-  finished : (0 < length (unsigned run)) × (finish (eqb (byte run 0) 45) (sumFrom 0 0 (unsigned run)) ≡ parsed.Nanos z)
+  finished : (0 < length (unsigned run)) × (withSign (eqb (byte run 0) 45) (sumFrom 0 0 (unsigned run)) ≡ parsed.Nanos z)
   unfolding parseOf
   finished =
       let f = pick-second (eqb (length (unsigned run)) 0) bad-nanos (rw n at e) in
@@ -126,7 +121,7 @@ module _ (run : List ℕ) (z : ℤ) (e : parseOf run ≡ parsed.Nanos z) (n : sa
       (omega arith, f .1)
 
   summed : (d : ℕ) × (sumFrom 0 0 (unsigned run) ≡ total.Sum d)
-  unfolding finish
+  unfolding withSign
   summed = go (sumFrom 0 0 (unsigned run)) refl
     where
       go : (t : Total) → sumFrom 0 0 (unsigned run) ≡ t → (d : ℕ) × (sumFrom 0 0 (unsigned run) ≡ total.Sum d)
@@ -137,11 +132,7 @@ module _ (run : List ℕ) (z : ℤ) (e : parseOf run ≡ parsed.Nanos z) (n : sa
 signed : (run : List ℕ) → (byte run 0 ≡ 43 → ⊥) → run ≡ pick (eqb (byte run 0) 45) (45 ∷ unsigned run) (unsigned run)
 unfolding unsigned
 signed [] h = refl
-signed (b ∷ s) h = go (eqb b 45) refl
-  where
-    go : (r : Bool) → eqb b 45 ≡ r → b ∷ s ≡ pick r (45 ∷ pick (r || eqb b 43) s (b ∷ s)) (pick (r || eqb b 43) s (b ∷ s))
-    go true q = ap (λ (x : ℕ). x ∷ s) (eqb-true b 45 q)
-    go false q = rw (ne-eqb b 43 h)
+signed (b ∷ s) h = by-cases (eqb b 45) (λ q. rw (eqb-true b 45 q)) (λ q. rw (q, ne-eqb b 43 h))
 
 -- what an accepted run is
 pub record Form (run : List ℕ) (z : ℤ) : Type 0 where

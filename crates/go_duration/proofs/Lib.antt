@@ -1,18 +1,19 @@
-pub mod FloatErrors
-pub mod FloatChain
-pub mod Scales
-pub mod SmallScales
-pub mod LargeScales
-pub mod Distance
-pub mod DigitSteps
-pub mod DigitsRead
-pub mod FrontDigits
-pub mod UnitLaws
-pub mod PartSteps
-pub mod SumSteps
-pub mod RunSteps
-pub mod WrittenParts
-pub mod WrittenCuts
-pub mod WrittenRuns
+mod FloatChain
+mod FloatErrors
+mod Scales
+mod FloatValues
+mod SmallScales
+mod LargeScales
+mod Distance
+mod DigitSteps
+mod DigitsRead
+mod FrontDigits
+mod UnitLaws
+mod PartSteps
+mod SumSteps
+mod RunSteps
+mod WrittenParts
+mod WrittenCuts
+mod WrittenRuns
 pub mod Durations
 pub mod WrittenSums

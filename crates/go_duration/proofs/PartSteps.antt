@@ -1,7 +1,7 @@
--- One part, by the stages that the code has: what follows the whole number is the fraction that `partOf` speaks of, and the rest is
--- `unitPart`. And what an accepted part says of its length. Assumes nothing.
-use mathlib.Core.Path.{_≡_, refl, sym, ap}
-use mathlib.Core.Bool.{Bool, true, false, _&&_}
+-- For `nanos_part`, `next_part` and `sum`: one part by the stages that the code has. What follows the whole number is the fraction that `partOf` speaks
+-- of, the rest is `unitPart`, and an accepted part has a byte. By cases on the point and the tests. Assumes nothing.
+use mathlib.Core.Path.{_≡_, refl, sym, ap, _∙_}
+use mathlib.Core.Bool.{true, false, _&&_}
 use mathlib.Core.List.{List, []}
 use Prim.Native.Nat.{ℕ, _+_, _-_, _*_, _/_, _≤_, _<_, zero-le}
 use native.Mathlib.Nat.{pos-of-ne-zero, le-div-iff-mul-le, div-lt-iff-lt-mul}
@@ -11,12 +11,13 @@ use lib.ListN.{length, take, drop}
 use borrow.Author.Tests.{lt-ltb, le-ltb, eq-eqb, ne-eqb, eqb-true, eqb-false}
 use Rattle.base.specs.Bytes.{byte, sameBytes}
 use Rattle.base.specs.Runs.{reach}
-use Rattle.base.proofs.Tests.{pick-case, in-text, pick-same}
+use Rattle.base.proofs.Tests.{by-cases, pick-case, in-text, pick-same}
 use Rattle.base.proofs.Reaches.{reach-le, reach-rest}
 use Rattle.go_duration.specs.Fraction.{most, Acc, noDigits, readDigits, fracOf, fractionNanos}
 use Rattle.go_duration.specs.Digits.{countOf, UnitNanos}
 use Rattle.go_duration.specs.Units.{units, unitOf}
-use Rattle.go_duration.specs.Parse.{inDigits, inUnit, wholeEnd, hasPoint, fractionStart, fractionEnd, unitEnd, wholeOf, partUnit, partFraction, digitless, partOf}
+use Rattle.go_duration.specs.Parse.{inDigits, inUnit, wholeEnd, hasPoint, fractionStart, fractionEnd, unitEnd, wholeOf, partUnit}
+use Rattle.go_duration.specs.Parse.{partFraction, digitless, partOf}
 use Rattle.go_duration.specs.Stages.{fractionOf, accOf, ReadOf, fractionAt, nanosPart, unitPart}
 use Rattle.go_duration.specs.declared.fraction.Fraction.{Fraction}
 use Rattle.go_duration.specs.declared.part.After.{After}
@@ -24,7 +25,7 @@ use Rattle.go_duration.specs.declared.part.Part.{Part}
 use Rattle.go_duration.specs.declared.part.Part.the-variants as part
 use Rattle.go_duration.proofs.DigitSteps.{acc-is}
 use Rattle.go_duration.proofs.DigitsRead.{frac-le}
-use Rattle.go_duration.proofs.FrontDigits.{read-end-at}
+use Rattle.go_duration.proofs.FrontDigits.{read-end-at, Told}
 
 -- ---- `nanosPart`, by the tests that the code makes
 pub product-le : (w u : ℕ) → 0 < u → w ≤ most / u → w * u ≤ most
@@ -44,14 +45,14 @@ module _ (w : ℕ) (a : Acc) (u e : ℕ) where
   unfolding nanosPart
   product-over z h = rw (ne-eqb u 0 z, lt-ltb most (w * u) (div-lt-iff-lt-mul (pos-of-ne-zero z) .0 h))
 
-  module _ (z : u ≡ 0 → ⊥) (h : w ≤ most / u) where
-    pub sum-over : most < w * u + fracOf a u → part.Bad ≡ nanosPart w a u e
+  module _ (z : u ≡ 0 → ⊥) (h : w ≤ most / u) (x : ℕ) (q : x ≡ fracOf a u) where
+    pub sum-over : most < w * u + x → part.Bad ≡ nanosPart w a u e
     unfolding nanosPart
-    sum-over l = rw (ne-eqb u 0 z, le-ltb most (w * u) (product-le w u (pos-of-ne-zero z) h), lt-ltb most (w * u + fracOf a u) l)
+    sum-over l = rw (← q, ne-eqb u 0 z, le-ltb most (w * u) (product-le w u (pos-of-ne-zero z) h), lt-ltb most (w * u + x) l)
 
-    pub sum-value : w * u + fracOf a u ≤ most → part.Value (w * u + fracOf a u) e ≡ nanosPart w a u e
+    pub sum-value : w * u + x ≤ most → part.Value (w * u + x) e ≡ nanosPart w a u e
     unfolding nanosPart
-    sum-value l = rw (ne-eqb u 0 z, le-ltb most (w * u) (product-le w u (pos-of-ne-zero z) h), le-ltb most (w * u + fracOf a u) l)
+    sum-value l = rw (← q, ne-eqb u 0 z, le-ltb most (w * u) (product-le w u (pos-of-ne-zero z) h), le-ltb most (w * u + x) l)
 
 module _ (s : List ℕ) where
   -- the unit that stands at the fraction's end
@@ -73,12 +74,12 @@ module _ (s : List ℕ) where
   unfolding partOf
   part-over h = rw (lt-ltb most (wholeOf s) h) (sym (pick-same (digitless s) part.Bad))
 
-  pub part-none : digitless s ≡ true → part.Bad ≡ partOf s
+  part-none : digitless s ≡ true → part.Bad ≡ partOf s
   unfolding partOf
   part-none e = rw e
 
   -- the part with digits, whose fraction is a
-  pub part-is : (a : Acc) → digitless s ≡ false → wholeOf s ≤ most → partFraction s ≡ fracOf a (partUnit s)
+  part-is : (a : Acc) → digitless s ≡ false → wholeOf s ≤ most → partFraction s ≡ fracOf a (partUnit s)
       → unitPart (wholeOf s) a (fractionEnd s) s ≡ partOf s
   unfolding partOf unitPart nanosPart size
   part-is a d h e = rw (d, le-ltb most (wholeOf s) h, e, unit-end, unit-is)
@@ -92,7 +93,7 @@ module _ (s : List ℕ) where
   unfolding wholeEnd
   whole-le = reach-le inDigits s 0 zero-le
 
-  pub fraction-le : fractionEnd s ≤ length s
+  fraction-le : fractionEnd s ≤ length s
   unfolding fractionEnd
   fraction-le =
       pick-case (λ n. n ≤ length s) (hasPoint s) (λ e. reach-le inDigits s (wholeEnd s + 1) (omega (arith, point-in e))) (λ e. whole-le)
@@ -108,7 +109,7 @@ module _ (s : List ℕ) where
       rw n
 
   -- ---- what follows the whole number
-  pub record Follows (r : After) : Type 0 where
+  record Follows (r : After) : Type 0 where
     pub ends : r .«end» ≡ fractionEnd s
     pub none : digitless s ≡ eqb (wholeEnd s) 0 && eqb (r .digits .count) 0
     pub nanos : partFraction s ≡ fracOf (accOf (r .digits)) (partUnit s)
@@ -135,11 +136,9 @@ module _ (s : List ℕ) where
   point-none e = rw (e, point-end e, more-eqb (wholeEnd s + 1) (countOf digits))
     where
       more-eqb : (m c : ℕ) → eqb (m + c) m ≡ eqb c 0
-      more-eqb m c = go (eqb c 0) (eqb-true c 0) (eqb-false c 0)
-        where
-          go : (b : Bool) → (b ≡ true → c ≡ 0) → (b ≡ false → c ≡ 0 → ⊥) → eqb (m + c) m ≡ b
-          go true h k = eq-eqb (m + c) m (let z = h refl in omega arith)
-          go false h k = ne-eqb (m + c) m (λ e. k refl (omega arith))
+      more-eqb m c =
+          by-cases (eqb c 0) (λ q. let z = eqb-true c 0 q in rw (q, eq-eqb (m + c) m (omega arith)))
+          (λ q. let z = eqb-false c 0 q in rw (q, ne-eqb (m + c) m (omega arith)))
 
   point-nanos : hasPoint s ≡ true → partFraction s ≡ fracOf digits (partUnit s)
   unfolding partFraction fractionNanos digits
@@ -156,9 +155,30 @@ module _ (s : List ℕ) where
         read = record { text = drop (wholeEnd s + 1) s; same = refl };
       }
 
-  pub follows : Follows (fractionAt (wholeEnd s) s)
+  follows : Follows (fractionAt (wholeEnd s) s)
   unfolding fractionAt hasPoint digits
   follows = pick-case Follows (eqb (byte s (wholeEnd s)) 46) (λ e. pointed e) (λ e. plain e)
+
+  -- ---- the part, by the number and the fraction that were read
+  module _ (v n : ℕ) (t : Told s v n) (r : After) (e : r ≡ fractionAt n s) where
+    rest : Follows r
+    rest = rw (e, t .used) follows
+
+    pub next-read : ReadOf (r .digits)
+    next-read = rest .read
+
+    pub next-in : r .«end» ≤ length s
+    next-in = rw (rest .ends) fraction-le
+
+    none-is : digitless s ≡ eqb n 0 && eqb (r .digits .count) 0
+    none-is = rw (t .used) (rest .none)
+
+    pub next-none : eqb n 0 && eqb (r .digits .count) 0 ≡ true → part.Bad ≡ partOf s
+    next-none q = part-none (none-is ∙ q)
+
+    pub next-is : eqb n 0 && eqb (r .digits .count) 0 ≡ false → (p : Part) → p ≡ unitPart v (accOf (r .digits)) (r .«end») s → p ≡ partOf s
+    next-is q p u =
+        (rw (t .value, rest .ends) at u) ∙ part-is (accOf (r .digits)) (none-is ∙ q) (rw (t .value) at (t .fits)) (rest .nanos)
 
   -- an accepted part has a byte and lies in the text
   pub record Used (n : ℕ) : Type 0 where

@@ -1,4 +1,5 @@
--- The units by their lengths, and the bounds of their nanoseconds. Assumes nothing.
+-- For `unit_of`, `unit_part` and WrittenSums: no list of another length than one to three is a unit, and no unit is above an hour. By cases on the list,
+-- and by one test of the table. Assumes nothing.
 use mathlib.Core.Path.{_≡_, refl}
 use mathlib.Core.List.{List, [], _∷_}
 use Prim.Native.Nat.{ℕ, _≤_, zero-le}

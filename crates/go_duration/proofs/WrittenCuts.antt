@@ -1,5 +1,5 @@
--- Where the pieces of a written part end: a part that a digit, a point or nothing follows is cut so; every list begins with such pieces; and
--- two cuts of one list are the same. Assumes nothing.
+-- For WrittenRuns and Durations: where the pieces of a written part end. A part that a digit, a point or nothing follows is cut so; every list begins with
+-- such pieces; and two cuts of one list are the same. By the fronts of base. Assumes nothing.
 use mathlib.Core.Path.{_≡_, refl, ap, sym, _∙_}
 use mathlib.Core.Bool.{Bool, true, false}
 use mathlib.Core.List.{List, [], _∷_, _++_, append-assoc, tail}
@@ -11,15 +11,11 @@ use lib.ListN.{length, length-append}
 use Rattle.base.specs.Choice.{pick}
 use Rattle.base.specs.Bytes.{each, sameBytes}
 use Rattle.base.specs.Classes.{isDigit}
-use Rattle.base.proofs.Tests.{and-left, true-false, neither}
+use Rattle.base.proofs.Tests.{and-left, by-cases, true-false, neither}
 use Rattle.go_duration.specs.Units.{units, unitOf}
 use Rattle.go_duration.specs.Written.{WrittenPart, partBytes, IsPart}
 use Rattle.base.proofs.Fronts.{begins, span, same-front, same-back}
-use Rattle.go_duration.proofs.WrittenParts.{isPoint, unitByte, point-no-digit, Cut}
-
--- what follows the whole number
-abbrev after : Bool → List ℕ → List ℕ → List ℕ
-after b f ys = pick b (46 ∷ f) [] ++ ys
+use Rattle.go_duration.proofs.WrittenParts.{isPoint, unitByte, Cut, after, whole-after, after-digits, after-point}
 
 -- ---- the form gives the cut
 unit-some : (u : List ℕ) → 0 < unitOf u → 0 < length u
@@ -49,12 +45,9 @@ cut-is p s i e =
 pub part-size : (p : WrittenPart) → IsPart p → 1 < length (partBytes p)
 part-size p i =
     let h = unit-some (p .unit) (i .known) in
-    let k = go (p .whole) (p .point) (p .fraction) (i .no-point) (i .some-digit) in
+    let k : 0 < length (p .whole) + length (pick (p .point) (46 ∷ p .fraction) []) =
+    by-cases (p .point) (λ e. rw e (omega arith)) (λ e. rw e (rw (i .no-point e) at (i .some-digit))) in
     omega (arith, length-append (p .whole) (after (p .point) (p .fraction) (p .unit)), length-append (pick (p .point) (46 ∷ p .fraction) []) (p .unit))
-  where
-    go : (w : List ℕ) (b : Bool) (f : List ℕ) → (b ≡ false → f ≡ []) → 0 < length w + length f → 0 < length w + length (pick b (46 ∷ f) [])
-    go w true f np d = omega arith
-    go w false f np d = rw (np refl) at d
 
 point-no-unit : unitByte 46 ≡ false
 unfolding isDigit
@@ -119,28 +112,13 @@ module _ (s w : List ℕ) (wd : each isDigit w ≡ true) where
 
   find-after : (ys : List ℕ) → s ≡ w ++ ys → begins isDigit ys ≡ false → Found s
   find-after [] e d = find-plain [] e d refl
-  find-after (b ∷ ys) e d = go (isPoint b) refl
-    where
-      go : (r : Bool) → isPoint b ≡ r → Found s
-      go true q = find-pointed ys (rw (eqb-true b 46 q) at e)
-      go false q = find-plain (b ∷ ys) e d q
+  find-after (b ∷ ys) e d =
+      by-cases (isPoint b) (λ q. find-pointed ys (rw (eqb-true b 46 q) at e)) (λ q. find-plain (b ∷ ys) e d q)
 
 pub find : (s : List ℕ) → Found s
 find s = let a = span isDigit s in find-after s (a .front) (a .passes) (a .back) (a .bytes) (a .stops)
 
 -- ---- a list is cut in one way only
-after-digits : (b : Bool) (f ys : List ℕ) → begins isDigit ys ≡ false → begins isDigit (after b f ys) ≡ false
-after-digits true f ys e = point-no-digit
-after-digits false f ys e = e
-
-after-point : (b : Bool) (f ys : List ℕ) → (b ≡ false → begins isPoint ys ≡ false) → begins isPoint (after b f ys) ≡ b
-after-point true f ys e = refl
-after-point false f ys e = e refl
-
-whole-after : (p : WrittenPart) (s : List ℕ) → partBytes p ++ s ≡ p .whole ++ after (p .point) (p .fraction) (p .unit ++ s)
-whole-after p s = append-assoc (p .whole) (after (p .point) (p .fraction) (p .unit)) s
-    ∙ ap (λ (l : List ℕ). p .whole ++ l) (append-assoc (pick (p .point) (46 ∷ p .fraction) []) (p .unit) s)
-
 same-after : (b : Bool) (f ys g zs : List ℕ) → each isDigit f ≡ true → each isDigit g ≡ true → (b ≡ false → f ≡ []) → (b ≡ false → g ≡ [])
     → begins isDigit ys ≡ false → begins isDigit zs ≡ false → after b f ys ≡ after b g zs → (f ≡ g) × (ys ≡ zs)
 same-after true f ys g zs fd gd nf ng dy dz e =

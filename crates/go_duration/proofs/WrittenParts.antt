@@ -1,6 +1,6 @@
--- One written part against `partOf`: where the part's pieces are as long as can be, `partOf` finds their ends, and of its tests on the number the
--- last one decides. Assumes nothing.
-use mathlib.Core.Path.{_≡_, refl, ap, sym, _∙_}
+-- For WrittenCuts and WrittenRuns: one written part against `partOf`. Where the part's pieces are as long as can be, `partOf` finds their ends, and of its
+-- tests on the number the last one decides. By cases on the point. Assumes nothing.
+use mathlib.Core.Path.{_≡_, refl, sym, _∙_}
 use mathlib.Core.Bool.{Bool, true, false, not, _&&_, _||_}
 use mathlib.Core.List.{List, [], _∷_, _++_, append-assoc}
 use Prim.Native.Nat.{ℕ, zero, suc, _+_, _-_, _*_, _<_}
@@ -9,18 +9,20 @@ use native.Mathlib.Omega.{arith}
 use borrow.Author.Tests.{eq-eqb, ne-eqb, eqb-false, ltb-false, le-ltb}
 use lib.Dec.{ltb, eqb, eqb·suc-zero}
 use lib.ListN.{length, drop, length-append}
-use lib.Seq.{take-append-seam, drop-append-seam, drop-append-add, drop-drop, getD-append-add}
+use lib.Seq.{take-append-seam, drop-append-seam, drop-append-add, getD-append-add}
 use Rattle.base.specs.Choice.{pick}
 use Rattle.base.specs.Bytes.{each, byte}
 use Rattle.base.specs.Classes.{isDigit}
-use Rattle.base.proofs.Tests.{and-left, and-right, pick-same, pick-second}
+use Rattle.base.specs.Runs.{reach}
+use Rattle.base.proofs.Tests.{and-left, and-right, by-cases, pick-same, pick-second}
 use Rattle.go_duration.specs.Fraction.{most, Acc, readDigits, addDigit, fracOf, fractionNanos, noDigits}
 use Rattle.go_duration.specs.Units.{unitOf, valueOf}
-use Rattle.go_duration.specs.Parse.{wholeEnd, hasPoint, fractionStart, fractionEnd, unitEnd, wholeOf, partUnit, partFraction, digitless, partOf}
+use Rattle.go_duration.specs.Parse.{inDigits, wholeEnd, hasPoint, fractionStart, fractionEnd, unitEnd, wholeOf, partUnit, partFraction}
+use Rattle.go_duration.specs.Parse.{digitless, partOf}
 use Rattle.go_duration.specs.Written.{WrittenPart, partBytes, partNanos}
 use Rattle.go_duration.specs.declared.part.Part.{Part}
 use Rattle.go_duration.specs.declared.part.Part.the-variants as part
-use Rattle.base.proofs.Fronts.{begins, begins-byte, reach-front}
+use Rattle.base.proofs.Fronts.{begins, begins-is, reach-front}
 
 abbrev pub isPoint : ℕ → Bool
 isPoint b = eqb b 46
@@ -56,7 +58,7 @@ read-front (x ∷ xs) ys a e f =
     let q = read-front xs ys (addDigit a x) (and-right (isDigit x) (each isDigit xs) e) f in
     rw (h, q)
 
-pub fraction-front : (xs ys : List ℕ) (u : ℕ) → each isDigit xs ≡ true → begins isDigit ys ≡ false → fractionNanos (xs ++ ys) u ≡ fractionNanos xs u
+fraction-front : (xs ys : List ℕ) (u : ℕ) → each isDigit xs ≡ true → begins isDigit ys ≡ false → fractionNanos (xs ++ ys) u ≡ fractionNanos xs u
 unfolding fractionNanos
 fraction-front xs ys u e f = rw (read-front xs ys noDigits e f)
 
@@ -70,139 +72,120 @@ digitless-is zero zero c d e = rw (eq-eqb c d (omega arith))
 digitless-is zero (suc b) c d e = rw (ne-eqb c d (omega arith), ne-eqb (0 + suc b) 0 (omega arith))
 digitless-is (suc a) b c d e = rw (eqb·suc-zero a, ne-eqb (suc a + b) 0 (omega arith))
 
--- the whole number, and what follows it
-module _ (w ys : List ℕ) (wd : each isDigit w ≡ true) (de : begins isDigit ys ≡ false) where
-  whole-end : wholeEnd (w ++ ys) ≡ length w
-  unfolding wholeEnd
-  whole-end = reach-front isDigit (w ++ ys) 0 w ys refl wd de ∙ zero-add (length w)
+-- ---- what follows the whole number
+abbrev pub after : Bool → List ℕ → List ℕ → List ℕ
+after b f ys = pick b (46 ∷ f) [] ++ ys
 
-  whole-number : wholeOf (w ++ ys) ≡ valueOf w
-  unfolding wholeOf
-  whole-number = rw (whole-end, take-append-seam)
+pub whole-after : (p : WrittenPart) (s : List ℕ) → partBytes p ++ s ≡ p .whole ++ after (p .point) (p .fraction) (p .unit ++ s)
+whole-after p s = rw (append-assoc, append-assoc (pick (p .point) (46 ∷ p .fraction) []) (p .unit) s)
 
-  point-there : hasPoint (w ++ ys) ≡ isPoint (byte ys 0)
-  unfolding hasPoint
-  point-there =
-      let z : byte (w ++ ys) (length w) ≡ byte ys 0 = rw add-zero at (getD-append-add w ys 0 0) in
-      rw (whole-end, z)
-
--- the unit, which starts at k
-module _ (l u s : List ℕ) (k : ℕ) (e : fractionEnd l ≡ k) (d : drop k l ≡ u ++ s) (ub : each unitByte u ≡ true) (ue : begins unitByte s ≡ false) where
-  unit-end : unitEnd l ≡ k + length u
-  unfolding unitEnd
-  unit-end = rw e (reach-front unitByte l k u s d ub ue)
-
-  unit-nanos : partUnit l ≡ unitOf u
-  unfolding partUnit
-  unit-nanos =
-      let n : k + length u - k ≡ length u = omega arith in
-      rw (unit-end, e, n, d, take-append-seam)
-
--- ---- a part with a point
-pub point-no-digit : isDigit 46 ≡ false
+point-no-digit : isDigit 46 ≡ false
 unfolding isDigit
 point-no-digit = refl
 
-module _ (w f u s : List ℕ) (wd : each isDigit w ≡ true) (fd : each isDigit f ≡ true) (ub : each unitByte u ≡ true)
-    (de : begins isDigit (u ++ s) ≡ false) (ue : begins unitByte s ≡ false) where
-  abbrev after-whole : List ℕ
-  after-whole = 46 ∷ (f ++ (u ++ s))
+pub after-digits : (b : Bool) (f ys : List ℕ) → begins isDigit ys ≡ false → begins isDigit (after b f ys) ≡ false
+after-digits true f ys e = point-no-digit
+after-digits false f ys e = e
 
-  abbrev pointed : List ℕ
-  pointed = w ++ after-whole
+pub after-point : (b : Bool) (f ys : List ℕ) → (b ≡ false → begins isPoint ys ≡ false) → begins isPoint (after b f ys) ≡ b
+after-point true f ys e = refl
+after-point false f ys e = e refl
 
-  -- the start and the end of the fraction's digits
-  abbrev start : ℕ
-  start = length w + 1
+-- the point and the fraction
+abbrev size : Bool → List ℕ → ℕ
+size b f = pick b (suc (length f)) 0
 
-  abbrev stop : ℕ
-  stop = start + length f
+after-drop : (b : Bool) (f ys : List ℕ) → drop (size b f) (after b f ys) ≡ ys
+after-drop true f ys = drop-append-seam f ys
+after-drop false f ys = refl
 
-  from-start : drop start pointed ≡ f ++ (u ++ s)
-  from-start = drop-append-add w after-whole 1
+after-length : (b : Bool) (f ys : List ℕ) → length (after b f ys) ≡ size b f + length ys
+after-length true f ys = omega (arith, length-append f ys)
+after-length false f ys = omega arith
 
-  from-stop : drop stop pointed ≡ u ++ s
-  from-stop = sym (drop-drop (length f) start pointed) ∙ ap (drop (length f)) from-start ∙ drop-append-seam f (u ++ s)
-
-  pointed-whole : wholeEnd pointed ≡ length w
-  pointed-whole = whole-end w after-whole wd point-no-digit
-
-  pointed-there : hasPoint pointed ≡ true
-  pointed-there = point-there w after-whole wd point-no-digit
-
-  pointed-stop : fractionEnd pointed ≡ stop
-  unfolding fractionEnd
-  pointed-stop = rw (pointed-there, pointed-whole) (reach-front isDigit pointed start f (u ++ s) from-start fd de)
-
-  pointed-unit : partUnit pointed ≡ unitOf u
-  pointed-unit = unit-nanos pointed u s stop pointed-stop from-stop ub ue
-
-  pointed-reads : Reads pointed (record { whole = w; point = true; fraction = f; unit = u })
-  unfolding digitless partFraction fractionStart
-  pointed-reads = record {
-    digits = rw (pointed-there, pointed-stop, pointed-whole) (digitless-is (length w) (length f) stop start refl);
-    number = whole-number w after-whole wd point-no-digit;
-    nanos = pointed-unit;
-    extra = rw (pointed-there, pointed-whole, from-start, pointed-unit) (fraction-front f (u ++ s) (unitOf u) fd de);
-    end = rw (unit-end pointed u s stop pointed-stop from-stop ub ue, length-append) (omega (arith, length-append f u));
-  }
-
--- ---- a part without one
-module _ (w u s : List ℕ) (wd : each isDigit w ≡ true) (ub : each unitByte u ≡ true) (de : begins isDigit (u ++ s) ≡ false)
-    (pe : begins isPoint (u ++ s) ≡ false) (ue : begins unitByte s ≡ false) where
-  abbrev plain : List ℕ
-  plain = w ++ (u ++ s)
-
-  plain-whole : wholeEnd plain ≡ length w
-  plain-whole = whole-end w (u ++ s) wd de
-
-  plain-there : hasPoint plain ≡ false
-  plain-there = point-there w (u ++ s) wd de ∙ begins-byte isPoint (u ++ s) refl pe
-
-  plain-stop : fractionEnd plain ≡ length w
-  unfolding fractionEnd
-  plain-stop = rw (plain-there, plain-whole)
-
-  plain-reads : Reads plain (record { whole = w; point = false; fraction = []; unit = u })
-  unfolding digitless partFraction fractionStart
-  plain-reads = record {
-    digits = rw (plain-there, plain-stop, plain-whole) (digitless-is (length w) 0 (length w) (length w) (omega arith));
-    number = whole-number w (u ++ s) wd de;
-    nanos = unit-nanos plain u s (length w) plain-stop (drop-append-seam w (u ++ s)) ub ue;
-    extra = rw plain-there (sym (no-fraction (unitOf u)));
-    end = rw (unit-end plain u s (length w) plain-stop (drop-append-seam w (u ++ s)) ub ue, length-append);
-  }
-
--- ---- every part
+-- ---- a part that is cut so is read so
 module _ (p : WrittenPart) (s : List ℕ) (c : Cut p s) where
-  reads : Reads (partBytes p ++ s) p
-  reads = go (p .point) (p .fraction) (c .fraction-digits) (c .no-point) (c .point-ends)
+  abbrev l : List ℕ
+  l = partBytes p ++ s
+
+  abbrev rest : List ℕ
+  rest = after (p .point) (p .fraction) (p .unit ++ s)
+
+  -- the end of the fraction's digits
+  abbrev stop : ℕ
+  stop = length (p .whole) + size (p .point) (p .fraction)
+
+  whole-end : wholeEnd l ≡ length (p .whole)
+  unfolding wholeEnd
+  whole-end =
+      reach-front isDigit l 0 (p .whole) rest (whole-after p s) (c .whole-digits)
+      (after-digits (p .point) (p .fraction) (p .unit ++ s) (c .digits-end))
+      ∙ zero-add (length (p .whole))
+
+  point-there : hasPoint l ≡ p .point
+  unfolding hasPoint
+  point-there =
+      let z : byte (p .whole ++ rest) (length (p .whole)) ≡ byte rest 0 = rw add-zero at (getD-append-add (p .whole) rest 0 0) in
+      rw (whole-end, whole-after p s, z) (begins-is isPoint rest refl ∙ after-point (p .point) (p .fraction) (p .unit ++ s) (c .point-ends))
+
+  from-point : p .point ≡ true → drop (length (p .whole) + 1) l ≡ p .fraction ++ (p .unit ++ s)
+  from-point e = rw (whole-after p s, e) (drop-append-add (p .whole) (46 ∷ (p .fraction ++ (p .unit ++ s))) 1)
+
+  fraction-stop : fractionEnd l ≡ stop
+  unfolding fractionEnd
+  fraction-stop =
+      rw (point-there, whole-end)
+      (go (p .point) (length (p .whole)) (reach inDigits l (length (p .whole) + 1)) (length (p .fraction))
+      (λ e. omega (arith, reach-front isDigit l (length (p .whole) + 1) (p .fraction) (p .unit ++ s) (from-point e) (c .fraction-digits) (c .digits-end))))
     where
-      go : (b : Bool) (f : List ℕ) → each isDigit f ≡ true → (b ≡ false → f ≡ []) → (b ≡ false → begins isPoint (p .unit ++ s) ≡ false)
-          → Reads ((p .whole ++ (pick b (46 ∷ f) [] ++ p .unit)) ++ s) (record { whole = p .whole; point = b; fraction = f; unit = p .unit })
-      go true f fd np pe =
-          rw (append-assoc, append-assoc f (p .unit) s)
-          (pointed-reads (p .whole) f (p .unit) s (c .whole-digits) fd (c .unit-bytes) (c .digits-end) (c .unit-ends))
-      go false f fd np pe =
-          rw (np refl, append-assoc)
-          (plain-reads (p .whole) (p .unit) s (c .whole-digits) (c .unit-bytes) (c .digits-end) (pe refl) (c .unit-ends))
+      go : (b : Bool) (n r k : ℕ) → (b ≡ true → r ≡ n + suc k) → pick b r n ≡ n + pick b (suc k) 0
+      go true n r k h = h refl
+      go false n r k h = sym (add-zero n)
+
+  from-stop : drop stop l ≡ p .unit ++ s
+  from-stop = rw (whole-after p s, drop-append-add) (after-drop (p .point) (p .fraction) (p .unit ++ s))
+
+  unit-stop : unitEnd l ≡ stop + length (p .unit)
+  unfolding unitEnd
+  unit-stop = rw fraction-stop (reach-front unitByte l stop (p .unit) s from-stop (c .unit-bytes) (c .unit-ends))
+
+  unit-nanos : partUnit l ≡ unitOf (p .unit)
+  unfolding partUnit
+  unit-nanos =
+      let n : stop + length (p .unit) - stop ≡ length (p .unit) = omega arith in
+      rw (unit-stop, fraction-stop, n, from-stop, take-append-seam)
+
+  reads : Reads l p
+  unfolding wholeOf digitless partFraction fractionStart
+  reads = record {
+    digits =
+        rw (fraction-stop, point-there, whole-end)
+        (digitless-is (length (p .whole)) (length (p .fraction)) stop (pick (p .point) (length (p .whole) + 1) (length (p .whole)))
+        (by-cases (p .point) (λ e. rw e (omega arith)) (λ e. rw (e, c .no-point e) (omega arith))));
+    number = rw (whole-end, whole-after p s, take-append-seam);
+    nanos = unit-nanos;
+    extra =
+        rw (point-there, whole-end, unit-nanos)
+        (by-cases (p .point)
+        (λ e. rw (from-point e, e) (fraction-front (p .fraction) (p .unit ++ s) (unitOf (p .unit)) (c .fraction-digits) (c .digits-end)))
+        (λ e. rw (e, c .no-point e) (sym (no-fraction (unitOf (p .unit))))));
+    end =
+        rw unit-stop
+        (omega (arith, length-append (p .whole) (after (p .point) (p .fraction) (p .unit)), after-length (p .point) (p .fraction) (p .unit)));
+  }
 
 -- ---- what `partOf` makes of a part
 -- its tests on a number v, a unit u and a fraction's nanoseconds x come down to the last one
 capped : {A : Type 0} (v u x : ℕ) (bad good : A) → 0 < u
     → pick (ltb most v) bad (pick (eqb u 0) bad (pick (ltb most (v * u)) bad (pick (ltb most (v * u + x)) bad good))) ≡ pick (ltb most (v * u + x)) bad good
-capped v u x bad good h = go (ltb most (v * u + x)) refl
+capped v u x bad good h =
+    by-cases (ltb most (v * u + x)) (λ q. rw (q, e) (simp pick-same))
+    (λ q. let l = ltb-false most (v * u + x) q in
+    let m = le-mul-of-pos-right v h in
+    rw (le-ltb most v (omega arith), e, le-ltb most (v * u) (omega arith)))
   where
     e : eqb u 0 ≡ false
     e = ne-eqb u 0 (omega arith)
-
-    go : (b : Bool) → ltb most (v * u + x) ≡ b
-        → pick (ltb most v) bad (pick (eqb u 0) bad (pick (ltb most (v * u)) bad (pick b bad good))) ≡ pick b bad good
-    go true q = rw e (simp pick-same)
-    go false q =
-        let l = ltb-false most (v * u + x) q in
-        let m = le-mul-of-pos-right v h in
-        rw (le-ltb most v (omega arith), e, le-ltb most (v * u) (omega arith))
 
 bad-value : {v n : ℕ} → part.Bad ≡ part.Value v n → ⊥
 bad-value e = let z : _≡_ {A = ℕ} 0 1 = cc in omega arith

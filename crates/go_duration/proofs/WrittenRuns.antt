@@ -1,15 +1,14 @@
--- Written parts, one after the other, against `sumFrom`: a run of parts sums up to its total or is refused above 2^63, and a list that has a
--- sum is a run of parts. By induction on the parts, and on the length of the list. Assumes nothing.
+-- For `unsigned_run` and Durations: a run of written parts sums up to its total or is refused above 2^63, and a list that has a sum is a run of parts, in
+-- one way only. By induction on the parts, and on the length of the list. Assumes nothing.
 use mathlib.Core.Path.{_≡_, refl, ap, ap₂, sym, _∙_}
-use mathlib.Core.Bool.{Bool, true, false}
+use mathlib.Core.Bool.{false}
 use mathlib.Core.List.{List, [], _∷_, _++_}
 use Prim.Native.Nat.{ℕ, zero, suc, _+_, _≤_, _<_, zero-le, suc-le-suc}
 use native.Mathlib.Nat.{add-zero, add-assoc, le-refl, not-suc-le-zero}
-use native.Mathlib.Numerals.{sub-one}
 use native.Mathlib.Omega.{arith}
 use borrow.Author.Tests.{ltb-true, ltb-false, lt-ltb, le-ltb}
 use lib.Dec.{ltb}
-use lib.ListN.{length, drop, length-append}
+use lib.ListN.{length, length-append}
 use lib.Seq.{drop-append-seam}
 use Rattle.base.specs.Choice.{pick}
 use Rattle.go_duration.specs.Fraction.{most}
@@ -19,29 +18,11 @@ use Rattle.go_duration.specs.declared.part.Part.{Part}
 use Rattle.go_duration.specs.declared.part.Part.the-variants as part
 use Rattle.go_duration.specs.declared.parse.Total.{Total}
 use Rattle.go_duration.specs.declared.parse.Total.the-variants as total
-use Rattle.base.proofs.Tests.{pick-second}
+use Rattle.base.proofs.Tests.{by-cases, pick-second}
 use Rattle.base.proofs.Fronts.{begins}
+use Rattle.go_duration.proofs.SumSteps.{front-bad, front-step}
 use Rattle.go_duration.proofs.WrittenParts.{unitByte, Cut, part-is, part-good}
 use Rattle.go_duration.proofs.WrittenCuts.{cut-is, part-size, part-begins, find, same-cut}
-
--- ---- one step
-skip : (k d : ℕ) (l : List ℕ) → sumFrom k d l ≡ sumFrom 0 d (drop k l)
-unfolding sumFrom
-skip zero d l = refl
-skip (suc k) d [] = refl
-skip (suc k) d (x ∷ l) = skip k d l
-
-sum-bad : (d : ℕ) (l : List ℕ) → 0 < length l → partOf l ≡ part.Bad → sumFrom 0 d l ≡ total.Bad
-unfolding sumFrom
-sum-bad d [] h e = absurd (not-suc-le-zero h)
-sum-bad d (x ∷ l) h e = rw e
-
-sum-step : (d v n : ℕ) (l : List ℕ) → 0 < length l → 0 < n → partOf l ≡ part.Value v n
-    → sumFrom 0 d l ≡ pick (ltb most (d + v)) total.Bad (sumFrom 0 (d + v) (drop n l))
-unfolding sumFrom
-sum-step d v n [] h k e = absurd (not-suc-le-zero h)
-sum-step d v zero (x ∷ l) h k e = absurd (not-suc-le-zero k)
-sum-step d v (suc n) (x ∷ l) h k e = rw (e, sub-one) (ap (pick (ltb most (d + v)) total.Bad) (skip n (d + v) l))
 
 -- ---- the form gives the sum
 pub parts-begin : {ps : List WrittenPart} {s : List ℕ} → Parts ps s → begins unitByte s ≡ false
@@ -55,17 +36,12 @@ module _ (p : WrittenPart) (s : List ℕ) where
   -- the part's nanoseconds are added, if neither they nor the sum exceed 2^63
   part-sum : (d : ℕ) → IsPart p → begins unitByte s ≡ false
       → sumFrom 0 d (partBytes p ++ s) ≡ pick (ltb most (d + partNanos p)) total.Bad (sumFrom 0 (d + partNanos p) s)
-  part-sum d i b = go (ltb most (partNanos p)) refl (part-is p s (cut-is p s i b) (i .some-digit) (i .known))
-    where
-      go : (r : Bool) → ltb most (partNanos p) ≡ r
-          → partOf (partBytes p ++ s) ≡ pick (ltb most (partNanos p)) part.Bad (part.Value (partNanos p) (length (partBytes p)))
-          → sumFrom 0 d (partBytes p ++ s) ≡ pick (ltb most (d + partNanos p)) total.Bad (sumFrom 0 (d + partNanos p) s)
-      go true q e =
-          let l = ltb-true most (partNanos p) q in
-          rw (lt-ltb most (d + partNanos p) (omega arith)) (sum-bad d (partBytes p ++ s) (some-bytes i) (rw q at e))
-      go false q e =
-          let t = sum-step d (partNanos p) (length (partBytes p)) (partBytes p ++ s) (some-bytes i) (omega (arith, part-size p i)) (rw q at e) in
-          rw drop-append-seam at t
+  part-sum d i b =
+      let e = part-is p s (cut-is p s i b) (i .some-digit) (i .known) in
+      by-cases (ltb most (partNanos p)) (λ q. let l = ltb-true most (partNanos p) q in
+      rw (lt-ltb most (d + partNanos p) (omega arith)) (front-bad d (partBytes p ++ s) (some-bytes i) (rw q at e)))
+      (λ q. rw drop-append-seam at
+      (front-step d (partNanos p) (length (partBytes p)) (partBytes p ++ s) (some-bytes i) (omega (arith, part-size p i)) (rw q at e)))
 
 -- a sum of parts, if it is at most 2^63
 abbrev pub bounded : ℕ → Total
@@ -74,15 +50,11 @@ bounded n = pick (ltb most n) total.Bad (total.Sum n)
 pub sum-is : {ps : List WrittenPart} {s : List ℕ} → Parts ps s → (d : ℕ) → d ≤ most → sumFrom 0 d s ≡ bounded (d + totalOf ps)
 unfolding sumFrom
 sum-is none d h = rw (add-zero, le-ltb most d h)
-sum-is (more {p = p} {ps = ps} {s = s} i q) d h = go (ltb most (d + partNanos p)) refl (λ k. sum-is q (d + partNanos p) k)
-  where
-    go : (r : Bool) → ltb most (d + partNanos p) ≡ r
-        → (d + partNanos p ≤ most → sumFrom 0 (d + partNanos p) s ≡ bounded ((d + partNanos p) + totalOf ps))
-        → sumFrom 0 d (partBytes p ++ s) ≡ bounded (d + (partNanos p + totalOf ps))
-    go true e ih =
-        let l = ltb-true most (d + partNanos p) e in
-        rw (part-sum p s d i (parts-begin q), e, lt-ltb most (d + (partNanos p + totalOf ps)) (omega arith))
-    go false e ih = rw (part-sum p s d i (parts-begin q), e, ← add-assoc d (partNanos p) (totalOf ps)) (ih (ltb-false most (d + partNanos p) e))
+sum-is (more {p = p} {ps = ps} {s = s} i q) d h =
+    by-cases (ltb most (d + partNanos p)) (λ e. let l = ltb-true most (d + partNanos p) e in
+    rw (part-sum p s d i (parts-begin q), e, lt-ltb most (d + (partNanos p + totalOf ps)) (omega arith)))
+    (λ e. rw (part-sum p s d i (parts-begin q), e, ← add-assoc d (partNanos p) (totalOf ps))
+    (sum-is q (d + partNanos p) (ltb-false most (d + partNanos p) e)))
 
 -- ---- a sum gives the form
 pub record Run (s : List ℕ) (d e : ℕ) : Type 0 where
@@ -100,7 +72,7 @@ module _ (p : WrittenPart) (s : List ℕ) (c : Cut p s) (d e : ℕ) (h : 0 < len
   first-part = go (partOf (partBytes p ++ s)) refl
     where
       go : (r : Part) → partOf (partBytes p ++ s) ≡ r → IsPart p
-      go part.Bad a = absurd (bad-sum (sym (sum-bad d (partBytes p ++ s) h a) ∙ q))
+      go part.Bad a = absurd (bad-sum (sym (front-bad d (partBytes p ++ s) h a) ∙ q))
       go (part.Value v n) a =
           let g = part-good p s c v n a in
           record {
@@ -143,6 +115,13 @@ parts-of (suc n) e (x ∷ l) d h q = step n e (parts-of n e) (x ∷ l) d (suc-le
 
 pub sum-parts : (s : List ℕ) (d e : ℕ) → sumFrom 0 d s ≡ total.Sum e → Run s d e
 sum-parts s d e q = parts-of (length s) e s d (le-refl (length s)) q
+
+-- so it is at most 2^63
+pub sum-fits : (s : List ℕ) (e : ℕ) → total.Sum e ≡ sumFrom 0 0 s → e ≤ most
+sum-fits s e q =
+    let r = sum-parts s 0 e (sym q) in
+    let f = pick-second (ltb most (0 + totalOf (r .written))) bad-sum (sym (sum-is (r .parts) 0 zero-le) ∙ sym q) in
+    omega (arith, r .sum, ltb-false most (0 + totalOf (r .written)) (f .0))
 
 -- ---- a run of parts is one in one way only
 same-run : {ps qs : List WrittenPart} {s r : List ℕ} → Parts ps s → Parts qs r → s ≡ r → ps ≡ qs

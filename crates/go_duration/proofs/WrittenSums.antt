@@ -1,43 +1,46 @@
--- Demand 3's words of a Duration: the nanoseconds of an accepted run are the sum of its parts as written, each written fraction within one
+-- For the lexer (demand 3's words of a Duration): the nanoseconds of an accepted run are the sum of its parts as written, each written fraction within one
 -- nanosecond. From the distance of the floats. Assumes nothing.
-use mathlib.Core.Path.{_≡_, refl}
+use mathlib.Core.Path.{_≡_, refl, _∙_}
 use mathlib.Core.Bool.{Bool, true, false}
-use mathlib.Core.List.{List, [], _∷_}
+use mathlib.Core.List.{List, [], _∷_, append-nil}
 use Prim.Native.Nat.{ℕ}
 use native.Mathlib.Omega.{arith}
 use lib.IntN.{ℤ}
 use lib.ListN.{length}
+use lib.Seq.{take-length}
 use Rattle.base.specs.Bytes.{each, byte, sameBytes}
 use Rattle.base.specs.Classes.{isDigit}
-use Rattle.base.proofs.Tests.{and-left, and-right}
-use Rattle.go_duration.specs.Fraction.{more, fractionNanos}
+use Rattle.base.specs.Runs.{run}
+use Rattle.base.proofs.Fronts.{run-front}
+use Rattle.go_duration.specs.Fraction.{fractionNanos}
 use Rattle.go_duration.specs.Digits.{allOf, digitCount, exactOf}
 use Rattle.go_duration.specs.Units.{unitOf, valueFrom}
-use Rattle.go_duration.specs.Parse.{signOf, unsigned, parseOf}
+use Rattle.go_duration.specs.Parse.{inDigits, signOf, unsigned, parseOf}
 use Rattle.go_duration.specs.Written.{WrittenPart, IsPart, Parts, Duration, exactFraction, PartNanos, Sums, SumOfParts, partNanos, totalOf}
 use Rattle.go_duration.specs.declared.parse.Parsed.the-variants as parsed
 use Rattle.go_duration.proofs.DigitsRead.{read-distance}
+use Rattle.go_duration.proofs.FrontDigits.{all-value, count-run}
 use Rattle.go_duration.proofs.UnitLaws.{unit-le}
 use Rattle.go_duration.proofs.WrittenParts.{no-fraction}
 use Rattle.go_duration.proofs.Durations.{value-is, form}
 
 -- ---- all bytes of a written fraction are digits
-all-value : (l : List ℕ) (w : ℕ) → each isDigit l ≡ true → allOf l w ≡ valueFrom w l
-unfolding allOf valueFrom
-all-value [] w e = refl
-all-value (b ∷ l) w e = rw (and-left (isDigit b) (each isDigit l) e) (all-value l (more w b) (and-right (isDigit b) (each isDigit l) e))
+module _ (l : List ℕ) (e : each isDigit l ≡ true) where
+  run-all : run inDigits l ≡ length l
+  run-all = rw append-nil at (run-front isDigit l [] e refl)
 
-all-count : (l : List ℕ) → each isDigit l ≡ true → digitCount l ≡ length l
-unfolding digitCount
-all-count [] e = refl
-all-count (b ∷ l) e = rw (and-left (isDigit b) (each isDigit l) e) (omega (arith, all-count l (and-right (isDigit b) (each isDigit l) e)))
+  number-all : (w : ℕ) → allOf l w ≡ valueFrom w l
+  number-all w = rw (all-value l w, run-all, take-length)
+
+  count-all : digitCount l ≡ length l
+  count-all = count-run l ∙ run-all
 
 exact-is : (p : WrittenPart) → each isDigit (p .fraction) ≡ true → exactOf (p .fraction) (unitOf (p .unit)) ≡ exactFraction p
 unfolding exactOf exactFraction
-exact-is p e = rw (all-value (p .fraction) 0 e, all-count (p .fraction) e)
+exact-is p e = rw (number-all (p .fraction) e 0, count-all (p .fraction) e)
 
 -- ---- one part, and all
-pub part-nanos : (p : WrittenPart) → IsPart p → PartNanos p (partNanos p)
+part-nanos : (p : WrittenPart) → IsPart p → PartNanos p (partNanos p)
 unfolding partNanos
 part-nanos p i = record {
   extra = fractionNanos (p .fraction) (unitOf (p .unit));
@@ -50,7 +53,7 @@ part-nanos p i = record {
     none [] h = no-fraction (unitOf (p .unit))
     none (b ∷ l) h = absurd (omega arith)
 
-pub total-sums : {ps : List WrittenPart} {s : List ℕ} → Parts ps s → Sums ps (totalOf ps)
+total-sums : {ps : List WrittenPart} {s : List ℕ} → Parts ps s → Sums ps (totalOf ps)
 total-sums Parts.none = Sums.none
 total-sums (Parts.more {p = p} i q) = Sums.more (part-nanos p i) (total-sums q)
 

@@ -1,4 +1,5 @@
--- The digits of a fraction, said for the proofs of distance: what is kept of them, and what all of them write.
+-- Helper definitions, for proofs and inner contracts alone: the digits of a fraction, said for the proofs of distance, what is kept of them and what all
+-- of them write.
 use mathlib.Core.Path.{_≡_}
 use mathlib.Core.List.{List, [], _∷_}
 use mathlib.Core.Logic.{_⊎_}

@@ -2,6 +2,7 @@
 use mathlib.Core.Bool.{Bool, true, false, not, _&&_}
 use mathlib.Core.List.{List, [], _∷_}
 use Prim.Native.Nat.{ℕ, zero, suc, _+_, _-_, _*_}
+use Prim.Native.Char.{code}
 use lib.Dec.{leb, ltb}
 use lib.IntN.{pos}
 use lib.Ieee.{Float, fin, binary64, mul, div, ofInt, toUnsigned}
@@ -38,7 +39,7 @@ nanosOf f k u = toUnsigned 64 (productOf f k u)
 
 -- f with one digit more, the byte b
 abbrev pub more : ℕ → ℕ → ℕ
-more f b = f * 10 + (b - 48)
+more f b = f * 10 + (b - code "0")
 
 -- whether it is kept: neither test of `leading_fraction` finds an overflow
 abbrev pub room : ℕ → ℕ → Bool

@@ -2,9 +2,11 @@
 use mathlib.Core.Bool.{Bool, not, _&&_, _||_}
 use mathlib.Core.List.{List, [], _∷_}
 use Prim.Native.Nat.{ℕ, zero, suc, _+_, _-_, _*_}
+use Prim.Native.Char.{code}
 use lib.Dec.{ltb, eqb}
 use lib.IntN.{ℤ, pos, _-ℤ_}
 use lib.ListN.{length, take, drop}
+use Rattle.base.specs.Characters.{ascii}
 use Rattle.base.specs.Choice.{pick}
 use Rattle.base.specs.Bytes.{byte, sameBytes}
 use Rattle.base.specs.Classes.{isDigit}
@@ -18,6 +20,9 @@ use Rattle.go_duration.specs.declared.parse.Total.the-variants as total
 use Rattle.go_duration.specs.declared.parse.Parsed.{Parsed}
 use Rattle.go_duration.specs.declared.parse.Parsed.the-variants as parsed
 
+-- Types of the code (src/part.rt, src/parse.rt). `Part`, one part: `Value nanos used`, its nanoseconds and how many bytes it has, or `Bad`. `Total`,
+-- the sum of the parts: `Sum nanos` or `Bad`. `Parsed`, what a run is as a duration: `Nanos nanos` or `Bad`.
+
 -- ---- one part, at the front of a list
 
 -- a digit; what follows it does not count
@@ -26,7 +31,7 @@ inDigits a b = isDigit a
 
 -- "a unit, which runs to the next digit or point or to the end"
 abbrev pub inUnit : ℕ → ℕ → Bool
-inUnit a b = not (isDigit a || eqb a 46)
+inUnit a b = not (isDigit a || eqb a (code "."))
 
 -- the end of the digits of the whole number
 unfoldable pub wholeEnd : List ℕ → ℕ
@@ -34,7 +39,7 @@ wholeEnd s = reach inDigits s 0
 
 -- whether a point stands there
 unfoldable pub hasPoint : List ℕ → Bool
-hasPoint s = eqb (byte s (wholeEnd s)) 46
+hasPoint s = eqb (byte s (wholeEnd s)) (code ".")
 
 -- the start of the fraction's digits
 unfoldable pub fractionStart : List ℕ → ℕ
@@ -76,15 +81,15 @@ partOf s =
 
 -- ---- the parts, repeated
 
-abbrev pub follow : Part → ℕ → (ℕ → ℕ → Total) → Total
-follow part.Bad d f = total.Bad
-follow (part.Value v used) d f = pick (ltb most (d + v)) total.Bad (f (used - 1) (d + v))
+abbrev pub addPart : Part → ℕ → (ℕ → ℕ → Total) → Total
+addPart part.Bad d f = total.Bad
+addPart (part.Value v used) d f = pick (ltb most (d + v)) total.Bad (f (used - 1) (d + v))
 
 -- the sum of the parts, d being that of those before; k bytes at the front belong to a part that is counted already
 unfoldable pub sumFrom : ℕ → ℕ → List ℕ → Total
 sumFrom k d [] = total.Sum d
 sumFrom (suc k) d (x ∷ s) = sumFrom k d s
-sumFrom zero d (x ∷ s) = follow (partOf (x ∷ s)) d (λ k e. sumFrom k e s)
+sumFrom zero d (x ∷ s) = addPart (partOf (x ∷ s)) d (λ k e. sumFrom k e s)
 
 -- ---- the whole run
 
@@ -92,16 +97,16 @@ sumFrom zero d (x ∷ s) = follow (partOf (x ∷ s)) d (λ k e. sumFrom k e s)
 abbrev pub signOf : Bool → ℕ → ℤ
 signOf neg d = pick neg (pos 0 -ℤ pos d) (pos d)
 
-unfoldable pub finish : Bool → Total → Parsed
-finish neg total.Bad = parsed.Bad
-finish neg (total.Sum d) = pick (neg || ltb d most) (parsed.Nanos (signOf neg d)) parsed.Bad
+unfoldable pub withSign : Bool → Total → Parsed
+withSign neg total.Bad = parsed.Bad
+withSign neg (total.Sum d) = pick (neg || ltb d most) (parsed.Nanos (signOf neg d)) parsed.Bad
 
 -- the run after its sign
 unfoldable pub unsigned : List ℕ → List ℕ
-unsigned run = pick (eqb (byte run 0) 45 || eqb (byte run 0) 43) (drop 1 run) run
+unsigned run = pick (eqb (byte run 0) (code "-") || eqb (byte run 0) (code "+")) (drop 1 run) run
 
 -- "`0` alone is zero"; nothing is no duration
 unfoldable pub parseOf : List ℕ → Parsed
 parseOf run =
-    pick (sameBytes (unsigned run) (48 ∷ [])) (parsed.Nanos (pos 0))
-    (pick (eqb (length (unsigned run)) 0) parsed.Bad (finish (eqb (byte run 0) 45) (sumFrom 0 0 (unsigned run))))
+    pick (sameBytes (unsigned run) (ascii "0")) (parsed.Nanos (pos 0))
+    (pick (eqb (length (unsigned run)) 0) parsed.Bad (withSign (eqb (byte run 0) (code "-")) (sumFrom 0 0 (unsigned run))))

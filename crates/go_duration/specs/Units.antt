@@ -1,6 +1,8 @@
 -- The units of durations, and the number that a list of digits writes.
 use mathlib.Core.List.{List, [], _∷_}
 use Prim.Native.Nat.{ℕ, _+_, _-_, _*_}
+use Prim.Native.Char.{code}
+use Rattle.base.specs.Characters.{ascii}
 use Rattle.base.specs.Choice.{pick}
 use Rattle.base.specs.Bytes.{sameBytes}
 
@@ -8,14 +10,14 @@ use Rattle.base.specs.Bytes.{sameBytes}
 -- 3,600,000,000,000 for h"; `unit_of` of go_duration.rs
 unfoldable pub units : List (List ℕ × ℕ)
 units =
-    (110 ∷ 115 ∷ [], 1)
-    ∷ (117 ∷ 115 ∷ [], 1000)
-    ∷ (0xC2 ∷ 0xB5 ∷ 115 ∷ [], 1000)
-    ∷ (0xCE ∷ 0xBC ∷ 115 ∷ [], 1000)
-    ∷ (109 ∷ 115 ∷ [], 1000000)
-    ∷ (115 ∷ [], 1000000000)
-    ∷ (109 ∷ [], 60000000000)
-    ∷ (104 ∷ [], 3600000000000)
+    (ascii "ns", 1)
+    ∷ (ascii "us", 1000)
+    ∷ (0xC2 ∷ 0xB5 ∷ ascii "s", 1000)
+    ∷ (0xCE ∷ 0xBC ∷ ascii "s", 1000)
+    ∷ (ascii "ms", 1000000)
+    ∷ (ascii "s", 1000000000)
+    ∷ (ascii "m", 60000000000)
+    ∷ (ascii "h", 3600000000000)
     ∷ []
 
 abbrev pub unitIn : List (List ℕ × ℕ) → List ℕ → ℕ
@@ -30,7 +32,7 @@ unitOf u = unitIn units u
 -- the number that digits write after w
 unfoldable pub valueFrom : ℕ → List ℕ → ℕ
 valueFrom w [] = w
-valueFrom w (b ∷ bs) = valueFrom (w * 10 + (b - 48)) bs
+valueFrom w (b ∷ bs) = valueFrom (w * 10 + (b - code "0")) bs
 
 -- the number that digits write: "Missing digits of a whole number count as 0"
 abbrev pub valueOf : List ℕ → ℕ

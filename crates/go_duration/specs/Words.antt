@@ -2,6 +2,7 @@
 use mathlib.Core.Path.{_≡_, refl}
 use mathlib.Core.List.{List, [], _∷_, map}
 use Prim.Native.Nat.{ℕ}
+use Rattle.base.specs.Characters.{ascii}
 use Rattle.base.specs.Bytes.{sameBytes}
 use Rattle.go_duration.specs.Units.{units, unitOf, valueFrom, valueOf}
 
@@ -17,21 +18,21 @@ unit l n = record { bytes = l; nanos = n }
 abbrev pub unitRows : List Unit
 unitRows =
     -- "1 for ns"
-    (unit (110 ∷ 115 ∷ []) 1)
+    (unit (ascii "ns") 1)
     -- "1,000 for us"
-    ∷ (unit (117 ∷ 115 ∷ []) 1000)
+    ∷ (unit (ascii "us") 1000)
     -- "also with U+00B5"
-    ∷ (unit (194 ∷ 181 ∷ 115 ∷ []) 1000)
+    ∷ (unit (0xC2 ∷ 0xB5 ∷ ascii "s") 1000)
     -- "or U+03BC for the u"
-    ∷ (unit (206 ∷ 188 ∷ 115 ∷ []) 1000)
+    ∷ (unit (0xCE ∷ 0xBC ∷ ascii "s") 1000)
     -- "1,000,000 for ms"
-    ∷ (unit (109 ∷ 115 ∷ []) 1000000)
+    ∷ (unit (ascii "ms") 1000000)
     -- "1,000,000,000 for s"
-    ∷ (unit (115 ∷ []) 1000000000)
+    ∷ (unit (ascii "s") 1000000000)
     -- "60,000,000,000 for m"
-    ∷ (unit (109 ∷ []) 60000000000)
+    ∷ (unit (ascii "m") 60000000000)
     -- "3,600,000,000,000 for h"
-    ∷ (unit (104 ∷ []) 3600000000000)
+    ∷ (unit (ascii "h") 3600000000000)
     ∷ []
 
 -- every row of the table holds; the run of `1` and each unit stands in Examples
@@ -52,12 +53,9 @@ abbrev pub numberRows : List Number
 numberRows =
     -- "Missing digits of a whole number count as 0"
     (number [] 0)
-    -- `10`
-    ∷ (number (49 ∷ 48 ∷ []) 10)
-    -- `0042`
-    ∷ (number (48 ∷ 48 ∷ 52 ∷ 50 ∷ []) 42)
-    -- `1234567890`
-    ∷ (number (49 ∷ 50 ∷ 51 ∷ 52 ∷ 53 ∷ 54 ∷ 55 ∷ 56 ∷ 57 ∷ 48 ∷ []) 1234567890)
+    ∷ (number (ascii "10") 10)
+    ∷ (number (ascii "0042") 42)
+    ∷ (number (ascii "1234567890") 1234567890)
     ∷ []
 
 -- every row of the table holds

@@ -3,6 +3,7 @@ use mathlib.Core.Path.{_≡_}
 use mathlib.Core.Bool.{Bool, true, false, not, _||_}
 use mathlib.Core.List.{List, [], _∷_, _++_}
 use Prim.Native.Nat.{ℕ, _+_, _-_, _*_, _/_, _^_, _≤_, _<_}
+use Prim.Native.Char.{code}
 use lib.Dec.{eqb}
 use lib.IntN.{ℤ, pos, _-ℤ_}
 use lib.ListN.{length}
@@ -21,7 +22,7 @@ pub record WrittenPart : Type 0 where
 
 -- the bytes of a part
 abbrev pub partBytes : WrittenPart → List ℕ
-partBytes p = p .whole ++ (pick (p .point) (46 ∷ p .fraction) [] ++ p .unit)
+partBytes p = p .whole ++ (pick (p .point) (code "." ∷ p .fraction) [] ++ p .unit)
 
 -- what a part is: "each with at least one digit"; the unit "runs to the next digit or point or to the end", and is one of the table
 pub record IsPart (p : WrittenPart) : Type 0 where
@@ -29,7 +30,7 @@ pub record IsPart (p : WrittenPart) : Type 0 where
   pub fraction-digits : each isDigit (p .fraction) ≡ true
   pub no-point : p .point ≡ false → p .fraction ≡ []
   pub some-digit : 0 < length (p .whole) + length (p .fraction)
-  pub unit-bytes : each (λ b. not (isDigit b || eqb b 46)) (p .unit) ≡ true
+  pub unit-bytes : each (λ b. not (isDigit b || eqb b (code "."))) (p .unit) ≡ true
   pub known : 0 < unitOf (p .unit)
 
 -- the parts, one after the other
@@ -42,7 +43,7 @@ pub record Duration (neg : Bool) (ps : List WrittenPart) (run : List ℕ) : Type
   pub rest : List ℕ
   pub parts : Parts ps rest
   pub some : 0 < length ps
-  pub bytes : run ≡ pick neg (45 ∷ rest) rest
+  pub bytes : run ≡ pick neg (code "-" ∷ rest) rest
 
 -- two whole numbers that differ by at most one
 abbrev pub ByOne : ℕ → ℕ → Type 0

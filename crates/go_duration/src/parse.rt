@@ -4,8 +4,8 @@ use crate::part::Part;
 ghost use mathlib.Core.Path.{_≡_};
 ghost use Prim.Native.Nat.{_≤_};
 ghost use Rattle.go_duration.specs.Fraction.{most};
-ghost use Rattle.go_duration.specs.Parse.{sumFrom, finish, parseOf};
-ghost use Rattle.go_duration.specs.Stages.{signSize, magnitude};
+ghost use Rattle.go_duration.specs.Parse.{sumFrom, withSign, parseOf};
+ghost use Rattle.go_duration.specs.Stages.{signSize, parseUnsigned};
 
 // The sum of the parts.
 pub enum Total {
@@ -42,7 +42,7 @@ pub fn sum(s: &[u8]) -> Total
 // The sign is put on the finished sum. 2^63 fits only under `-`; one comes off before the cast.
 fn signed(d: u64, neg: bool) -> Parsed
     requires { ⌜ d ≤ most ⌝ }
-    ensures { λ r. ⌜ r ≡ finish neg (Total.Sum d) ⌝ }
+    ensures { λ r. ⌜ r ≡ withSign neg (Total.Sum d) ⌝ }
 {
     if neg {
         if d == 0 {
@@ -58,7 +58,7 @@ fn signed(d: u64, neg: bool) -> Parsed
 
 // What `s`, the run after its sign, is under that sign.
 fn unsigned_run(s: &[u8], neg: bool) -> Parsed
-    ensures { λ r. ⌜ r ≡ magnitude neg (now (s .entry)) ⌝ }
+    ensures { λ r. ⌜ r ≡ parseUnsigned neg (now (s .entry)) ⌝ }
 {
     let n = s.len();
     if n == 0 {

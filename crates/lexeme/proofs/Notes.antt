@@ -1,5 +1,5 @@
--- Reports: where each stands, how many numbers they have, one list after the other, and that each fits. By induction on the list of reports. Assumes
--- nothing.
+-- For the crates that lay reports: where each stands, how many numbers they have, one list after the other, and that each fits. By induction on the list.
+-- Assumes nothing.
 use mathlib.Core.Path.{_≡_, refl, sym, ap, _∙_}
 use mathlib.Core.List.{List, [], _∷_, _++_, append-assoc}
 use Prim.Native.Nat.{ℕ, _+_, _*_, _≤_}
@@ -8,12 +8,13 @@ use lib.ListN.{length}
 use lib.IntN.{ℤ}
 use Rattle.limits.specs.Limits.{maxMessageSize}
 use Rattle.token.specs.Place.{placeAt}
-use Rattle.token.specs.Reason as reasons
-use Rattle.token.specs.Layout.{reportWidth, reportNumbers, ReportFits}
+use Rattle.token.specs.Layout.{reportWidth, reportNumbers}
+use Rattle.token.specs.Helpers.{ReportFits, lastReason}
 use Rattle.token.specs.declared.place.Place.{Place}
 use Rattle.token.proofs.Places.{Moved, place-moved}
 use Rattle.lexeme.specs.Lexeme.{Note}
-use Rattle.lexeme.specs.Reports.{reportAt, reportOf, notesNumbers}
+use Rattle.lexeme.specs.Reports.{reportAt, reportOf}
+use Rattle.lexeme.specs.Helpers.{notesNumbers}
 
 -- each report of a list stands within n bytes of the token's start
 pub data NotesIn (n : ℕ) : List Note → Type 0 where
@@ -35,7 +36,7 @@ module _ (text : List ℕ) (a : ℕ) where
 
 -- a report at a place of a text that is read has small numbers
 pub report-fits : (text : List ℕ) (i : ℕ) (p : Place) (reason detail : ℕ) → p ≡ placeAt text i → i ≤ length text → length text ≤ maxMessageSize
-    → reason ≤ reasons.last → detail ≤ 255 → ReportFits (reportAt p reason detail)
+    → reason ≤ lastReason → detail ≤ 255 → ReportFits (reportAt p reason detail)
 report-fits text i p reason detail e h k r d =
     let m : Moved _ (placeAt text i) i = place-moved text i h in
     rw e (record { reason = omega arith; detail = omega arith; offset = omega arith; line = omega arith; column = omega arith })

@@ -6,6 +6,11 @@ use Rattle.token.specs.declared.kind.TokenKind.{TokenKind}
 use Rattle.token.specs.declared.kind.TokenKind.the-variants as K
 use Rattle.lexeme.specs.declared.Lexeme.{Lexeme}
 
+-- Types of the code (src/lib.rt). `Lexeme`, a token of `len` bytes with its `kind`, `reason` and `detail`: its value is `size` bytes from `value` on,
+-- or a String's `size` decoded bytes; its precision is `digits` bytes from `precision` on; a Duration has `nanos`; it makes so many `reports`.
+-- `Mode`: `Strict` refuses what is open or badly escaped, `Tolerant` recovers and reports it.
+-- Types that other files explain: `TokenKind` in token/specs/Kind.antt.
+
 -- a token of n bytes with its value at v..v + size, and so many reports; "Unused numbers are 0"
 abbrev pub extent : TokenKind → ℕ → ℕ → ℕ → ℕ → Lexeme
 extent k n v size reports =

@@ -1,2 +1,3 @@
 pub mod Lexeme
 pub mod Reports
+pub mod Helpers

@@ -1,12 +1,12 @@
 -- The reports of a token as rows of numbers: document 01, "A report is five signed 64-bit numbers: reason, detail, offset, line, column".
-use mathlib.Core.List.{List, [], _∷_, _++_}
+use mathlib.Core.List.{List}
 use Prim.Native.Nat.{ℕ, _+_}
-use lib.IntN.{ℤ}
 use Rattle.token.specs.Place.{placeAt}
-use Rattle.token.specs.Layout.{reportNumbers}
 use Rattle.token.specs.declared.place.Place.{Place}
 use Rattle.token.specs.declared.layout.Report.{Report}
 use Rattle.lexeme.specs.Lexeme.{Note}
+
+-- Types that other files explain: `Place` in token/specs/Place.antt; `Report` in token/specs/Layout.antt.
 
 -- a report that stands at a place
 abbrev pub reportAt : Place → ℕ → ℕ → Report
@@ -15,8 +15,3 @@ reportAt p reason detail = record { reason = reason; detail = detail; offset = p
 -- the report of a token that starts at the offset a of the text: "a report [stands] at its offset"
 unfoldable pub reportOf : List ℕ → ℕ → Note → Report
 reportOf text a n = reportAt (placeAt text (a + n .offset)) (n .reason) (n .detail)
-
--- the numbers of its reports, in order
-unfoldable pub notesNumbers : List ℕ → ℕ → List Note → List ℤ
-notesNumbers text a [] = []
-notesNumbers text a (n ∷ ns) = reportNumbers (reportOf text a n) ++ notesNumbers text a ns

@@ -1,4 +1,4 @@
--- What is known of the token at the front of a text that is not at its end: by cases on its class, from what each lexer's laws say.
+-- For `Lexes` and `Puts`: what is known of the token at the front of a text that is not at its end. By cases on its class, from the laws of each lexer.
 -- Assumes nothing.
 use mathlib.Core.Path.{_≡_, refl, sym, ap, _∙_}
 use mathlib.Core.Bool.{true, false}
@@ -11,14 +11,15 @@ use lib.ListN.{length, take, drop}
 use borrow.Author.Tests.{eq-eqb, ne-eqb}
 use Rattle.base.specs.Bytes.{byte}
 use Rattle.base.specs.Classes.{isIdentStart}
-use Rattle.base.proofs.Tests.{in-text, pick-case, true-false}
+use Rattle.base.proofs.Tests.{in-text, pick-case, true-false, zero-one}
 use Rattle.utf8.specs.Grammar as octets
-use Rattle.utf8.specs.Grammar.{Boundary, Octets}
+use Rattle.utf8.specs.Grammar.{Octets}
+use Rattle.utf8.specs.Onward.{Boundary}
 use Rattle.utf8.proofs.Boundaries.{ascii-boundary, boundary-rest}
 use Rattle.go_duration.specs.Written.{SumOfParts}
 use Rattle.go_duration.proofs.WrittenSums.{sum-of-parts}
-use Rattle.token.specs.Kind.{kindNumber, stringNumber, onOneLine}
-use Rattle.token.specs.Place.{Flat}
+use Rattle.token.specs.Kind.{kindNumber, stringNumber}
+use Rattle.token.specs.Helpers.{onOneLine, Flat}
 use Rattle.token.proofs.KindNumbers.{number-kind}
 use Rattle.token.specs.declared.kind.TokenKind.{TokenKind}
 use Rattle.token.specs.declared.kind.TokenKind.the-variants as K
@@ -52,7 +53,7 @@ use Rattle.lexer.specs.Lexer.{classAt, lexBy, lexemeOf, stringBy, string
 use Rattle.lexer.specs.Token.{stringSize}
 use Rattle.lexer.specs.declared.class.Class.{Class}
 use Rattle.lexer.specs.declared.class.Class.the-variants as C
-use Rattle.lexer.proofs.Knows.{Knows, Mark, lBrace, rBrace, lBracket, rBracket, lParen, rParen, equals, colon, comma, knows-at}
+use Rattle.lexer.proofs.FirstBytes.{FirstBytes, Mark, lBrace, rBrace, lBracket, rBracket, lParen, rParen, equals, colon, comma, first-bytes-at}
 
 notes-all : (n : ℕ) (xs : List Note) → ((x : Note) → List·Memᴰ x xs → x .offset ≤ n) → NotesIn n xs
 notes-all n [] f = none
@@ -132,13 +133,13 @@ unfolding onOneLine kindNumber
 literal-facts s r bytes ns w k e f n i b u =
     record {
       within = w;
-      not-eof = λ q. ⊎-elim (λ p. absurd (omega (arith, ap kindNumber (sym p ∙ q)))) (λ p. absurd (omega (arith, ap kindNumber (sym p ∙ q)))) k;
+      not-eof = λ q. ⊎-elim (λ p. zero-one (cc)) (λ p. zero-one (cc)) k;
       string =
           ⊎-elim (λ p. e ∙ sym (string-is (r .kind) (r .size) p))
-          (λ p. ap length (f p) ∙ sym (other-size (r .kind) (r .size) (λ q. absurd (omega (arith, ap kindNumber (sym p ∙ q)))))) k;
+          (λ p. ap length (f p) ∙ sym (other-size (r .kind) (r .size) (λ q. zero-one (cc)))) k;
       notes = n;
       notes-in = i;
-      duration = λ q. ⊎-elim (λ p. absurd (omega (arith, ap kindNumber (sym p ∙ q)))) (λ p. absurd (omega (arith, ap kindNumber (sym p ∙ q)))) k;
+      duration = λ q. ⊎-elim (λ p. zero-one (cc)) (λ p. zero-one (cc)) k;
       boundary = b;
       utf8 = u;
       on-line = ⊎-elim (λ p. other-kind (r .kind) (rw p)) (λ p. other-kind (r .kind) (rw p)) k;
@@ -148,41 +149,18 @@ literal-facts s r bytes ns w k e f n i b u =
 byte-in : (s : List ℕ) (i n : ℕ) → 0 < n → byte s i ≡ n → i < length s
 byte-in s i n h e = in-text (λ x. eqb x n) s i (ne-eqb 0 n (λ q. absurd (omega arith))) (eq-eqb (byte s i) n e)
 
--- a mark of one byte is ASCII, and a kind of its own
-mark-ascii : {a : ℕ} {k : TokenKind} → Mark a k → a < 0x80
-mark-ascii lBrace = lit< tt
-mark-ascii rBrace = lit< tt
-mark-ascii lBracket = lit< tt
-mark-ascii rBracket = lit< tt
-mark-ascii lParen = lit< tt
-mark-ascii rParen = lit< tt
-mark-ascii equals = lit< tt
-mark-ascii colon = lit< tt
-mark-ascii comma = lit< tt
-
--- and no newline
-mark-high : {a : ℕ} {k : TokenKind} → Mark a k → a ≡ 10 → ⊥
-mark-high lBrace e = omega (arith, e)
-mark-high rBrace e = omega (arith, e)
-mark-high lBracket e = omega (arith, e)
-mark-high rBracket e = omega (arith, e)
-mark-high lParen e = omega (arith, e)
-mark-high rParen e = omega (arith, e)
-mark-high equals e = omega (arith, e)
-mark-high colon e = omega (arith, e)
-mark-high comma e = omega (arith, e)
-
-mark-plain : {a : ℕ} {k : TokenKind} → Mark a k → Plain k
+-- a mark of one byte is ASCII, no newline, and a kind of its own
+mark-facts : {a : ℕ} {k : TokenKind} → Mark a k → (a < 0x80) × (a ≡ 10 → ⊥) × Plain k
 unfolding kindNumber
-mark-plain lBrace = plain K.LBrace refl
-mark-plain rBrace = plain K.RBrace refl
-mark-plain lBracket = plain K.LBracket refl
-mark-plain rBracket = plain K.RBracket refl
-mark-plain lParen = plain K.LParen refl
-mark-plain rParen = plain K.RParen refl
-mark-plain equals = plain K.Equals refl
-mark-plain colon = plain K.Colon refl
-mark-plain comma = plain K.Comma refl
+mark-facts lBrace = (lit< tt, λ e. omega arith, plain K.LBrace refl)
+mark-facts rBrace = (lit< tt, λ e. omega arith, plain K.RBrace refl)
+mark-facts lBracket = (lit< tt, λ e. omega arith, plain K.LBracket refl)
+mark-facts rBracket = (lit< tt, λ e. omega arith, plain K.RBracket refl)
+mark-facts lParen = (lit< tt, λ e. omega arith, plain K.LParen refl)
+mark-facts rParen = (lit< tt, λ e. omega arith, plain K.RParen refl)
+mark-facts equals = (lit< tt, λ e. omega arith, plain K.Equals refl)
+mark-facts colon = (lit< tt, λ e. omega arith, plain K.Colon refl)
+mark-facts comma = (lit< tt, λ e. omega arith, plain K.Comma refl)
 
 -- the first byte is an ASCII byte, and the token is that byte
 one-byte : (s : List ℕ) → 0 < length s → byte s 0 < 0x80 → Ends s 1
@@ -197,35 +175,38 @@ triple-kind m s = pick-case (λ (r : Lexeme). (r .kind ≡ K.String) ⊎ (r .kin
     go Tolerant = inl refl
 
 module _ (m : Mode) (limit : ℕ) (s : List ℕ) (h : 0 < length s) where
-  mark-facts : (k : TokenKind) → Mark (byte s 0) k → Facts s (whole k 1) [] []
-  mark-facts k q =
-      line-facts s (whole k 1)
-      (record { scanned = whole-scanned s 1 (one-byte s h (mark-ascii q)) k (mark-plain q); flat = mark-flat q }) refl
-    where
-      mark-flat : Mark (byte s 0) k → Flat s 1
-      mark-flat w j l e =
-          let z : j ≡ 0 = omega arith in
-          mark-high w (rw z at e)
+  single-facts : (k : TokenKind) → Mark (byte s 0) k → Facts s (whole k 1) [] []
+  single-facts k q =
+      let f = mark-facts q in
+      let flat : Flat s 1 = λ j l e. (let z : j ≡ 0 = omega arith in f .1 (rw z at e)) in
+      line-facts s (whole k 1) (record { scanned = whole-scanned s 1 (one-byte s h (f .0)) k (f .2); flat = flat }) refl
 
-  pub by-class : (k : Class) → Knows (byte s 0) (byte s 1) (byte s 2) k → Facts s (lexBy k m limit s) (stringBy k m s) (notesBy k m limit s)
+  pub by-class : (k : Class) → FirstBytes (byte s 0) (byte s 1) (byte s 2) k → Facts s (lexBy k m limit s) (stringBy k m s) (notesBy k m limit s)
   unfolding lexBy stringBy notesBy quotes kindNumber onOneLine isIdentStart lexLineComment lexBytes lexOther
   by-class C.Newline q =
       silent-facts s (bare K.Newline 1)
       (extent-scanned s 1 (one-byte s h (omega arith)) K.Newline 1 0 0 (plain K.Newline refl) (omega arith) (omega arith)) refl (other-kind K.Newline refl)
-  by-class C.LineComment q = silent-facts s (lexLineComment s) (line-scanned s h (ne-eqb (byte s 0) 10 (λ e. ⊎-elim (λ a. absurd (omega arith)) (λ a. absurd (omega (arith, a .0))) q))) (line-silent s) (other-kind K.Comment refl)
-  by-class C.BlockComment q = scanned-facts s (lexBlockComment m s) (blockNotes m s) (block-scanned s (byte-in s 1 42 (omega arith) (q .1)) m) (block-notes-size m s) (block-notes-start m s) (other-kind (lexBlockComment m s .kind) (block-kind m s))
+  by-class C.LineComment q =
+      let n = ne-eqb (byte s 0) 10 (λ e. ⊎-elim (λ a. absurd (omega arith)) (λ a. absurd (omega (arith, a .0))) q) in
+      silent-facts s (lexLineComment s) (line-scanned s h n) (line-silent s) (other-kind K.Comment refl)
+  by-class C.BlockComment q =
+      scanned-facts s (lexBlockComment m s) (blockNotes m s) (block-scanned s (byte-in s 1 42 (omega arith) (q .1)) m) (block-notes-size m s)
+      (block-notes-start m s) (other-kind (lexBlockComment m s .kind) (block-kind m s))
   by-class C.Triple q =
       let z : quotes s ≡ true = rw (q .0, q .1 .0, q .1 .1) in
       let c = triple-size m s in
-      literal-facts s (lexTripleString m s) (tripleBytes m s) (tripleNotes m s) (triple-within m s (quotes-long s z)) (triple-kind m s) (c .bytes-counted)
-      (c .illegal-none) (c .notes-counted) (notes-all (length s) (tripleNotes m s) (λ x i. omega (arith, c .at-start x i)))
+      literal-facts s (lexTripleString m s) (tripleBytes m s) (tripleNotes m s) (triple-within m s (quotes-long s z)) (triple-kind m s)
+      (c .bytes-counted) (c .illegal-none) (c .notes-counted) (notes-all (length s) (tripleNotes m s) (λ x i. omega (arith, c .at-start x i)))
       (λ b. triple-boundary m s b z) (λ b. triple-utf8 m s (boundary-rest s 0 b) z)
   by-class C.Quote q =
-      literal-facts s (lexString m s) (stringBytes m s) (stringNotes m s) (string-within m s h) (string-kind m s) (string-size m s) (illegal-bytes m s)
-      (string-notes-size m s) (notes-all (length s) (stringNotes m s) (λ x i. notes-in m s h x i .offset-in)) (λ b. string-boundary m s h b) (λ b. string-utf8 m s)
-  by-class C.Bytes q = scanned-facts s (lexBytes m limit s) (bytesNotes m limit s) (bytes-scanned s (byte-in s 1 34 (omega arith) (q .1)) m limit) (bytes-notes-size m limit s) (bytes-notes-start m limit s)
+      literal-facts s (lexString m s) (stringBytes m s) (stringNotes m s) (string-within m s h) (string-kind m s) (string-size m s)
+      (illegal-bytes m s) (string-notes-size m s) (notes-all (length s) (stringNotes m s) (λ x i. notes-in m s h x i .offset-in))
+      (λ b. string-boundary m s h b) (λ b. string-utf8 m s)
+  by-class C.Bytes q =
+      scanned-facts s (lexBytes m limit s) (bytesNotes m limit s) (bytes-scanned s (byte-in s 1 34 (omega arith) (q .1)) m limit)
+      (bytes-notes-size m limit s) (bytes-notes-start m limit s)
       (other-kind (lexBytes m limit s .kind) (bytes-kind m s (bytesStop limit 0 (drop 2 s))))
-  by-class (C.Single k) q = mark-facts k q
+  by-class (C.Single k) q = single-facts k q
   by-class C.Directive q = line-facts s (lexDirective s) (directive-on-line s q) (directive-silent s)
   by-class C.Number q = line-facts s (lexNumber s) (number-on-line s q) (number-silent s)
   by-class C.Name q = line-facts s (lexIdent s) (ident-on-line s (⊎-elim (λ e. rw e) (λ e. e) q)) (ident-silent s)
@@ -237,4 +218,4 @@ Lexed m limit s r = Facts s r (stringOf m s) (notesOf m limit s)
 
 pub lexed : (m : Mode) (limit : ℕ) (s : List ℕ) → 0 < length s → Lexed m limit s (lexemeOf m limit s)
 unfolding lexemeOf stringOf notesOf
-lexed m limit s h = rw (ne-eqb (length s) 0 (λ e. absurd (omega arith))) (by-class m limit s h (classAt s) (knows-at s))
+lexed m limit s h = rw (ne-eqb (length s) 0 (λ e. absurd (omega arith))) (by-class m limit s h (classAt s) (first-bytes-at s))

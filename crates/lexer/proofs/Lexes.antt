@@ -1,6 +1,6 @@
--- The laws by which the next token and the calls on a text use the lexer, of the token at the front of any text: whatever lexeme function stands
--- behind `lexemeIn`, they know no more of it. The Eof at the text's end keeps them by computation, any other token by its class. Assumes nothing.
-use mathlib.Core.Path.{_≡_, refl, sym}
+-- For `FoundToken`: the laws of the token at the front of any text, whatever lexeme function stands behind `lexemeIn`: the next token and the calls on a text
+-- know no more of it. The Eof keeps them by computation, any other token by its class. Assumes nothing.
+use mathlib.Core.Path.{_≡_, sym}
 use mathlib.Core.Bool.{true}
 use mathlib.Core.Logic.{⊎-elim}
 use mathlib.Core.List.{List, [], _∷_}
@@ -8,12 +8,14 @@ use Prim.Native.Nat.{ℕ, _+_, _≤_, _<_}
 use native.Mathlib.Nat.{eq-or-lt-of-le}
 use native.Mathlib.Omega.{arith}
 use lib.ListN.{length, take}
+use borrow.Author.Needs.{needs}
 use Rattle.base.specs.Bytes.{AreBytes}
 use Rattle.utf8.specs.Grammar as octets
-use Rattle.utf8.specs.Grammar.{Octets, Boundary}
+use Rattle.utf8.specs.Grammar.{Octets}
+use Rattle.utf8.specs.Onward.{Boundary}
 use Rattle.go_duration.specs.Written.{SumOfParts}
-use Rattle.token.specs.Kind.{kindNumber, eofNumber, durationNumber, onOneLine}
-use Rattle.token.specs.Place.{Flat}
+use Rattle.token.specs.Kind.{kindNumber, eofNumber, durationNumber}
+use Rattle.token.specs.Helpers.{onOneLine, Flat}
 use Rattle.token.specs.Reason as reasons
 use Rattle.token.proofs.KindNumbers.{IsEof, number-kind}
 use Rattle.lexeme.specs.declared.Lexeme.{Lexeme}
@@ -54,23 +56,9 @@ pub record Lexes (r : Reading) (limit : ℕ) (s : List ℕ) (x : Lexeme) : Type 
 at-end : (r : Reading) (limit : ℕ) (s : List ℕ) → length s ≡ 0 → Lexes r limit s (lexemeIn r limit s)
 unfolding lexemeIn stringIn notesIn lexemeOf stringOf notesOf kindNumber stringSize
 at-end r limit [] e =
-    record {
-      advances = λ k. absurd (k refl);
-      ends-within = omega arith;
-      eof-at-end = λ _. refl;
-      ends-between = λ b. b;
-      value-in = omega arith;
-      precision-in = omega arith;
-      reports-in = omega arith;
-      reason-in = omega arith;
-      detail-in = λ _. omega arith;
-      string-counted = refl;
-      notes-counted = refl;
-      notes-within = none;
-      string-utf8 = λ _. octets.none;
-      on-line = λ _ j h _. absurd (omega arith);
-      duration = λ k. absurd (omega arith);
-    }
+    let x = lexemeIn r limit [] in
+    let d : kindNumber (x .kind) ≡ durationNumber → SumOfParts (take (x .len) []) (x .nanos) = λ k. absurd (omega arith) in
+    search (none, octets.none, needs)
 at-end r limit (x ∷ s) e = absurd (omega arith)
 
 module _ (r : Reading) (limit : ℕ) (s : List ℕ) where
@@ -79,24 +67,9 @@ module _ (r : Reading) (limit : ℕ) (s : List ℕ) where
   before-end h =
       let x : Lexeme = lexemeOf (modeOf r) limit s in
       let l : Lexed (modeOf r) limit s x = lexed (modeOf r) limit s h in
-      let w = l .within in
-      record {
-        advances = λ _. w .some;
-        ends-within = w .ends;
-        eof-at-end = λ k. absurd (l .not-eof (number-kind (x .kind) eofNumber k));
-        ends-between = l .boundary;
-        value-in = w .value-in;
-        precision-in = w .precision-in;
-        reports-in = w .reports-in;
-        reason-in = w .reason-in;
-        detail-in = w .detail-in;
-        string-counted = l .string;
-        notes-counted = l .notes;
-        notes-within = l .notes-in;
-        string-utf8 = l .utf8;
-        on-line = l .on-line;
-        duration = λ k. l .duration (number-kind (x .kind) durationNumber k);
-      }
+      let e : IsEof (x .kind) → length s ≡ 0 = λ k. absurd (l .not-eof (number-kind (x .kind) eofNumber k)) in
+      let d : kindNumber (x .kind) ≡ durationNumber → SumOfParts (take (x .len) s) (x .nanos) = λ k. l .duration (number-kind (x .kind) durationNumber k) in
+      search needs
 
   pub lexes : Lexes r limit s (lexemeIn r limit s)
   lexes = ⊎-elim (λ e. at-end r limit s (sym e)) (λ l. before-end l) (eq-or-lt-of-le (omega arith))

@@ -1,7 +1,7 @@
-pub mod Knows
-pub mod Lexed
-pub mod Lexes
+mod FirstBytes
+mod Lexed
+mod Lexes
 pub mod StrictNotes
-pub mod Founds
-pub mod Puts
-pub mod Marks
+pub mod FoundToken
+mod Puts
+mod Marks

@@ -1,4 +1,4 @@
--- A mark is a token by its byte alone: by cases on the tests of `markOf`, each of which is one of `classOf`. Assumes nothing.
+-- For `next_lexeme` and `each_token`: a mark is a token by its byte alone. By cases on the tests of `markOf`, each one of `classOf`. Assumes nothing.
 use mathlib.Core.Path.{_≡_, refl, sym, _∙_}
 use mathlib.Core.Bool.{true, not}
 use mathlib.Core.List.{List, _∷_}
@@ -10,8 +10,9 @@ use lib.Seq.{drop-cons}
 use borrow.Author.Tests.{eqb-true, ne-eqb}
 use Rattle.base.specs.Bytes.{byte}
 use Rattle.base.proofs.Tests.{in-text, pick-case}
-use Rattle.token.specs.Kind.{kindNumber, isNewline}
-use Rattle.token.specs.Place.{placeAt, stepPlace, Walkable, Steppable}
+use Rattle.token.specs.Kind.{kindNumber}
+use Rattle.token.specs.Helpers.{isNewline, Walkable, Steppable}
+use Rattle.token.specs.Place.{placeAt, stepPlace}
 use Rattle.token.specs.declared.kind.TokenKind.{TokenKind}
 use Rattle.token.specs.declared.place.Place.{Place}
 use Rattle.token.proofs.Places.{place-step, place-steppable}
@@ -20,9 +21,10 @@ use Rattle.lexeme.specs.declared.Mode.{Mode}
 use Rattle.lexer.specs.Reading.{modeOf, lexemeIn}
 use Rattle.lexer.specs.declared.reading.Reading.{Reading}
 use Rattle.token.proofs.KindNumbers.{IsEof}
-use Rattle.lexer.specs.Token.{foundFrom, placed, tokenOf, Placing}
-use Rattle.lexer.proofs.Founds.{here-placing, here-token}
-use Rattle.lexer.specs.Lexer.{markOf, markLexeme, classOf, classAt, lexBy, lexemeOf}
+use Rattle.lexer.specs.Token.{foundFrom, placed, tokenOf}
+use Rattle.lexer.specs.Helpers.{Placing, markOf, markLexeme}
+use Rattle.lexer.proofs.FoundToken.{here-placing, here-token}
+use Rattle.lexer.specs.Lexer.{classOf, classAt, lexBy, lexemeOf}
 
 module _ (m : Mode) (limit : ℕ) (a : ℕ) (s : List ℕ) where
   -- where the kind is no Eof, the token at the front is the mark of the kind
@@ -58,21 +60,23 @@ module _ (text : List ℕ) (i : ℕ) (n : IsEof (markOf (byte text i)) → ⊥) 
   mark-is m limit = rw (drop-cons text i 0 mark-in) (front (modeOf m) limit (byte text i) (drop (suc i) text) n)
 
 -- a mark is one byte
-pub mark-len : (k : TokenKind) → markLexeme k .len ≡ 1
+mark-len : (k : TokenKind) → markLexeme k .len ≡ 1
 unfolding markLexeme
 mark-len k = pick-case (λ (x : Lexeme). x .len ≡ 1) (isNewline k) (λ _. refl) (λ _. refl)
 
 -- the mark that stands at a place of the text
-module _ (m : Reading) (limit : ℕ) (text : List ℕ) (p : Place) (w : Walkable text p (p .offset)) (n : IsEof (markOf (byte text (p .offset))) → ⊥) where
+module _ {text : List ℕ} {p : Place} (w : Walkable text p (p .offset)) (n : IsEof (markOf (byte text (p .offset))) → ⊥) where
   pub mark-steppable : Steppable p
   mark-steppable = place-steppable text (p .offset) p (w .true-place) (mark-in text (p .offset) n) (w .short)
 
-  pub mark-placing : Placing p (markLexeme (markOf (byte text (p .offset))))
-  mark-placing = here-placing m limit text p w (markLexeme (markOf (byte text (p .offset)))) (sym (mark-is text (p .offset) n m limit))
+  pub mark-placing : (m : Reading) (limit : ℕ) → Placing p (markLexeme (markOf (byte text (p .offset))))
+  mark-placing m limit = here-placing m limit w (sym (mark-is text (p .offset) n m limit))
 
-  pub mark-token : placed (p .offset) p (stepPlace p (byte text (p .offset))) (markLexeme (markOf (byte text (p .offset)))) ≡ tokenOf text (foundFrom m limit text (p .offset))
-  mark-token =
+  pub mark-token : (m : Reading) (limit : ℕ)
+      → placed (p .offset) p (stepPlace p (byte text (p .offset))) (markLexeme (markOf (byte text (p .offset))))
+      ≡ tokenOf text (foundFrom m limit text (p .offset))
+  mark-token m limit =
       let k = markOf (byte text (p .offset)) in
       let e : stepPlace p (byte text (p .offset)) ≡ placeAt text (p .offset + markLexeme k .len) =
       place-step text (p .offset) p (w .true-place) (mark-in text (p .offset) n) ∙ rw (mark-len k) in
-      here-token m limit text p w (markLexeme k) (sym (mark-is text (p .offset) n m limit)) (stepPlace p (byte text (p .offset))) e
+      here-token m limit w (sym (mark-is text (p .offset) n m limit)) e

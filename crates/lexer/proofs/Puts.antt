@@ -1,10 +1,10 @@
--- What a token lays into the buffers, where it lays something: its class is one of few, and the lexer of that class says what. By cases on the
--- class. Assumes nothing.
+-- For `put_string`, `put_at_start` and `put_reports`: what a token lays into the buffers, where it lays something. Its class is one of few, and the
+-- lexer of that class says what. By cases on the class. Assumes nothing.
 use mathlib.Core.Path.{_≡_, refl, sym, ap, _∙_, subst}
 use mathlib.Core.Bool.{Bool, true, false, _&&_}
 use mathlib.Core.Logic.{⊎-elim, _⊎_, inl, inr}
 use mathlib.Core.List.{List, [], _∷_}
-use Prim.Native.Nat.{ℕ, zero, suc, _+_, _≤_, _<_}
+use Prim.Native.Nat.{ℕ, _+_, _≤_, _<_}
 use native.Mathlib.Nat.{add-zero}
 use native.Mathlib.Omega.{arith}
 use lib.Dec.{ltb, eqb, lit≤}
@@ -13,22 +13,27 @@ use borrow.Author.Tests.{eqb-true, ne-eqb}
 use Rattle.base.specs.Choice.{pick}
 use Rattle.base.specs.Bytes.{byte}
 use Rattle.base.proofs.Tests.{and-left, and-right, true-false}
-use Rattle.token.specs.Place.{placeAt, Walkable}
-use Rattle.token.specs.Layout.{reportWidth, reportNumbers, ReportFits}
+use Rattle.token.specs.Place.{placeAt}
+use Rattle.token.specs.Helpers.{Walkable, ReportFits, lastReason}
+use Rattle.token.specs.Layout.{reportWidth, reportNumbers}
 use Rattle.token.specs.Reason as reasons
+use Rattle.token.specs.declared.kind.TokenKind.the-variants as K
 use Rattle.token.specs.declared.place.Place.{Place}
-use Rattle.lexeme.specs.Lexeme.{noteAtStart}
-use Rattle.lexeme.specs.Reports.{reportAt, reportOf, notesNumbers}
+use Rattle.lexeme.specs.Lexeme.{Note, noteAtStart}
+use Rattle.lexeme.specs.Reports.{reportAt, reportOf}
+use Rattle.lexeme.specs.Helpers.{notesNumbers}
 use Rattle.lexeme.specs.declared.Lexeme.{Lexeme}
 use Rattle.lexeme.specs.declared.Mode.{Mode}
 use Rattle.lexeme.specs.declared.Mode.the-variants.{Strict, Tolerant}
 use Rattle.lexeme.proofs.Notes.{notes-length, report-fits}
 use Rattle.scan.specs.Comment as comment
 use Rattle.scan.specs.Comment.{bodyEnd, blockNotes}
-use Rattle.scan.specs.Bytes.{bytesStop, bytesNotes, notesBy, stopReason}
+use Rattle.scan.specs.Bytes.{bytesStop, bytesNotes, stopNotes}
+use Rattle.scan.specs.Helpers.{stopReason}
 use Rattle.scan.specs.declared.bytes.Stop.{Stop}
 use Rattle.scan.specs.declared.bytes.Stop.the-variants as stop
-use Rattle.strings.specs.Literal.{literalOf, lexString, stringBytes, stringNotes, Sized}
+use Rattle.strings.specs.Literal.{literalOf, lexString, stringBytes, stringNotes}
+use Rattle.strings.specs.Helpers.{Sized}
 use Rattle.strings.proofs.Laws.{string-kind, string-bytes, string-sized, illegal-bytes}
 use Rattle.triple_strings.specs.Dedent.{dedent}
 use Rattle.triple_strings.specs.Triple as literal
@@ -37,11 +42,11 @@ use Rattle.triple_strings.proofs.Triples.{triple-size, triple-bytes}
 use Rattle.lexer.specs.Lexer as lexer
 use Rattle.lexer.specs.Lexer.{classOf, classAt, lexBy, lexemeOf, stringBy, stringOf, notesOf}
 use Rattle.lexer.specs.Reading.{modeOf, lexemeIn, stringIn, notesIn}
-use Rattle.lexer.specs.Token.{ReportRoom}
+use Rattle.lexer.specs.Helpers.{ReportRoom}
 use Rattle.lexer.specs.declared.reading.Reading.{Reading}
 use Rattle.lexer.specs.declared.class.Class.{Class}
 use Rattle.lexer.specs.declared.class.Class.the-variants as C
-use Rattle.lexer.proofs.Knows.{Knows, knows-at}
+use Rattle.lexer.proofs.FirstBytes.{FirstBytes, first-bytes-at}
 use Rattle.lexer.proofs.Lexed.{triple-kind}
 
 -- ---- the string
@@ -72,15 +77,15 @@ string-class m s C.Number h = absurd (omega arith)
 string-class m s C.Name h = absurd (omega arith)
 string-class m s C.Other h = absurd (omega arith)
 
+-- a list for which something is laid is not empty: f of its length is, and f of 0 is 0
+not-empty : (f : ℕ → ℕ) (s : List ℕ) → f 0 ≡ 0 → 0 < f (length s) → 0 < length s
+not-empty f [] z h = absurd (omega arith)
+not-empty f (a ∷ s) z h = omega arith
+
 module _ (r : Reading) (s : List ℕ) (h : 0 < length (stringIn r s)) where
-  -- something stands there
   pub string-in : 0 < length s
   unfolding stringIn stringOf
-  string-in = go (length s) refl h
-    where
-      go : (n : ℕ) → length s ≡ n → 0 < length (stringIn r s) → 0 < length s
-      go zero e l = absurd (omega (arith, ap (λ (k : ℕ). length (pick (eqb k 0) [] (stringBy (classAt s) (modeOf r) s))) e))
-      go (suc n) e l = omega arith
+  string-in = not-empty (λ (k : ℕ). length (pick (eqb k 0) [] (stringBy (classAt s) (modeOf r) s))) s refl h
 
   by-class : stringIn r s ≡ stringBy (classAt s) (modeOf r) s
   unfolding stringIn stringOf
@@ -89,36 +94,39 @@ module _ (r : Reading) (s : List ℕ) (h : 0 < length (stringIn r s)) where
   pub triple-value : quotes s ≡ true → stringIn r s ≡ dedent (rawBytes s)
   unfolding stringBy
   triple-value q =
-      let e : stringIn r s ≡ tripleBytes (modeOf r) s = by-class ∙ ap (λ (k : Class). stringBy k (modeOf r) s) (triple-class s q) in
+      let e : stringIn r s ≡ tripleBytes (modeOf r) s = by-class ∙ rw (triple-class s q) in
       e
-      ∙ ⊎-elim (λ k. triple-bytes (modeOf r) s k) (λ k. absurd (omega (arith, h, ap length (e ∙ triple-size (modeOf r) s .illegal-none k)))) (triple-kind (modeOf r) s)
+      ∙ ⊎-elim (λ k. triple-bytes (modeOf r) s k)
+      (λ k. absurd (omega (arith, h, ap length (e ∙ triple-size (modeOf r) s .illegal-none k)))) (triple-kind (modeOf r) s)
 
   quote-class : quotes s ≡ false → classAt s ≡ C.Quote
   unfolding quotes
   quote-class q =
       ⊎-elim
       (λ k.
-      let w = subst (Knows (byte s 0) (byte s 1) (byte s 2)) k (knows-at s) in
+      let w = subst (FirstBytes (byte s 0) (byte s 1) (byte s 2)) k (first-bytes-at s) in
       true-false (quotes s) (rw (w .0, w .1 .0, w .1 .1)) q)
       (λ k. k) (string-class (modeOf r) s (classAt s) (rw by-class at h))
 
-  pub literal-value : quotes s ≡ false → stringIn r s ≡ literalOf (modeOf r) s .bytes
+  quote-bytes : quotes s ≡ false → stringIn r s ≡ stringBytes (modeOf r) s
   unfolding stringBy
-  literal-value q =
-      let e : stringIn r s ≡ stringBytes (modeOf r) s = by-class ∙ ap (λ (k : Class). stringBy k (modeOf r) s) (quote-class q) in
-      e ∙ ⊎-elim (λ k. string-bytes (modeOf r) s k) (λ k. absurd (omega (arith, h, ap length (e ∙ illegal-bytes (modeOf r) s k)))) (string-kind (modeOf r) s)
+  quote-bytes q = by-class ∙ rw (quote-class q)
+
+  -- what lays a string is no Illegal
+  quote-kind : quotes s ≡ false → lexString (modeOf r) s .kind ≡ K.String
+  quote-kind q =
+      ⊎-elim (λ k. k) (λ k. absurd (omega (arith, h, ap length (quote-bytes q ∙ illegal-bytes (modeOf r) s k)))) (string-kind (modeOf r) s)
+
+  pub literal-value : quotes s ≡ false → stringIn r s ≡ literalOf (modeOf r) s .bytes
+  literal-value q = quote-bytes q ∙ string-bytes (modeOf r) s (quote-kind q)
 
   -- its length and its size are those of the literal
   pub literal-sized : quotes s ≡ false → (limit : ℕ) → Sized (modeOf r) s (lexemeIn r limit s .len) (length (stringIn r s))
-  unfolding lexemeIn lexemeOf lexBy stringBy
+  unfolding lexemeIn lexemeOf lexBy
   literal-sized q limit =
       let e : lexemeIn r limit s ≡ lexString (modeOf r) s = rw (ne-eqb (length s) 0 (λ z. absurd (omega (arith, string-in))), quote-class q) in
-      let v : stringIn r s ≡ stringBytes (modeOf r) s = by-class ∙ ap (λ (k : Class). stringBy k (modeOf r) s) (quote-class q) in
-      ⊎-elim
-      (λ k.
-      let z = string-sized (modeOf r) s k in
-      record { count = ap length (sym (literal-value q)); stop = z .stop ∙ ap (λ (x : Lexeme). x .len) (sym e); closed = z .closed })
-      (λ k. absurd (omega (arith, h, ap length (v ∙ illegal-bytes (modeOf r) s k)))) (string-kind (modeOf r) s)
+      let z = string-sized (modeOf r) s (quote-kind q) in
+      record { count = ap length (sym (literal-value q)); stop = z .stop ∙ ap (λ (x : Lexeme). x .len) (sym e); closed = z .closed }
 
 -- ---- the reports
 
@@ -129,28 +137,25 @@ unfolding notesNumbers reportOf
 start-numbers text p r e = rw (add-zero (p .offset)) (ap (λ (q : Place). reportNumbers (reportAt q r 0)) (sym e))
 
 -- a report at a place of a text that is read has small numbers
-pub start-fits : (text : List ℕ) (p : Place) (r : ℕ) → Walkable text p (p .offset) → r ≤ reasons.last → ReportFits (reportAt p r 0)
+pub start-fits : (text : List ℕ) (p : Place) (r : ℕ) → Walkable text p (p .offset) → r ≤ lastReason → ReportFits (reportAt p r 0)
 start-fits text p r w h = report-fits text (p .offset) p r 0 (w .true-place) (w .inside) (w .short) h (omega arith)
+
+-- a literal that can be open has one report where it has some
+open-one : {note : Note} (notes : Mode → List Note) → notes Strict ≡ [] → notes Tolerant ≡ note ∷ []
+    → (b : Bool) (m : Mode) → 0 < length (pick b [] (notes m)) → pick b [] (notes m) ≡ note ∷ []
+open-one notes s t true m h = absurd (omega arith)
+open-one notes s t false Strict h = absurd (omega (arith, ap length s))
+open-one notes s t false Tolerant h = t
 
 block-one : (m : Mode) (s : List ℕ) → 0 < length (blockNotes m s) → blockNotes m s ≡ noteAtStart reasons.openBlockComment ∷ []
 unfolding blockNotes
-block-one m s h = go (ltb (bodyEnd s) (length s)) m h
-  where
-    go : (b : Bool) (n : Mode) → 0 < length (pick b [] (comment.openNotes n)) → pick b [] (comment.openNotes n) ≡ noteAtStart reasons.openBlockComment ∷ []
-    go true n l = absurd (omega arith)
-    go false Strict l = absurd (omega arith)
-    go false Tolerant l = refl
+block-one m s h = open-one comment.openCommentNotes refl refl (ltb (bodyEnd s) (length s)) m h
 
 triple-one : (m : Mode) (s : List ℕ) → 0 < length (tripleNotes m s) → tripleNotes m s ≡ noteAtStart reasons.openTripleString ∷ []
 unfolding tripleNotes
-triple-one m s h = go (closed s) m h
-  where
-    go : (b : Bool) (n : Mode) → 0 < length (pick b [] (literal.openNotes n)) → pick b [] (literal.openNotes n) ≡ noteAtStart reasons.openTripleString ∷ []
-    go true n l = absurd (omega arith)
-    go false Strict l = absurd (omega arith)
-    go false Tolerant l = refl
+triple-one m s h = open-one literal.openTripleNotes refl refl (closed s) m h
 
-bytes-one : (m : Mode) (e : Stop) → 0 < length (notesBy m e) → notesBy m e ≡ noteAtStart (stopReason e) ∷ []
+bytes-one : (m : Mode) (e : Stop) → 0 < length (stopNotes m e) → stopNotes m e ≡ noteAtStart (stopReason e) ∷ []
 unfolding stopReason
 bytes-one Strict e l = absurd (omega arith)
 bytes-one Tolerant (stop.Over n) l = absurd (omega arith)
@@ -158,7 +163,7 @@ bytes-one Tolerant (stop.Closed n) l = absurd (omega arith)
 bytes-one Tolerant (stop.Newline n) l = refl
 bytes-one Tolerant (stop.Open n) l = refl
 
-pub stop-small : (e : Stop) → stopReason e ≤ reasons.last
+pub stop-small : (e : Stop) → stopReason e ≤ lastReason
 unfolding stopReason
 stop-small (stop.Over n) = lit≤ tt
 stop-small (stop.Closed n) = lit≤ tt
@@ -186,20 +191,16 @@ noting m limit s C.Number h = absurd (omega arith)
 noting m limit s C.Name h = absurd (omega arith)
 noting m limit s C.Other h = absurd (omega arith)
 
-module _ (r : Reading) (limit : ℕ) (text : List ℕ) (p : Place) (room at : ℕ) (q : ReportRoom r limit text p room at) where
-  not-end : 0 < length (drop (p .offset) text)
+module _ {r : Reading} {limit : ℕ} {text : List ℕ} {p : Place} {room at : ℕ} (q : ReportRoom r limit text p room at) where
+  abbrev rest : List ℕ
+  rest = drop (p .offset) text
+
+  not-end : 0 < length rest
   unfolding notesIn notesOf
-  not-end = go (length (drop (p .offset) text)) refl (q .some)
-    where
-      go : (n : ℕ) → length (drop (p .offset) text) ≡ n → 0 < length (notesIn r limit (drop (p .offset) text)) → 0 < length (drop (p .offset) text)
-      go zero e l = absurd (omega (arith, ap (λ (k : ℕ). length (pick (eqb k 0) [] (lexer.notesBy (classAt (drop (p .offset) text)) (modeOf r) limit (drop (p .offset) text)))) e))
-      go (suc n) e l = omega arith
+  not-end = not-empty (λ (k : ℕ). length (pick (eqb k 0) [] (lexer.notesBy (classAt rest) (modeOf r) limit rest))) rest refl (q .some)
 
   pub notes-in-text : p .offset < length text
   notes-in-text = omega (arith, not-end, length-drop (p .offset) text)
-
-  abbrev rest : List ℕ
-  rest = drop (p .offset) text
 
   notes-by : notesIn r limit rest ≡ lexer.notesBy (classAt rest) (modeOf r) limit rest
   unfolding notesIn notesOf
@@ -208,60 +209,51 @@ module _ (r : Reading) (limit : ℕ) (text : List ℕ) (p : Place) (room at : �
   some-by : (k : Class) → classAt rest ≡ k → 0 < length (lexer.notesBy k (modeOf r) limit rest)
   some-by k e = rw (← e, ← notes-by) (q .some)
 
-  -- the class by the byte at the front
-  by-byte : (k : Class) → classAt rest ≡ k → Noting k
-  by-byte k e = noting (modeOf r) limit rest k (some-by k e)
+  -- the class, by the bytes at the front
+  record Front (k : Class) : Type 0 where
+    slash : byte rest 0 ≡ 47 → k ≡ C.BlockComment
+    letter : byte rest 0 ≡ 98 → k ≡ C.Bytes
+    other : (byte rest 0 ≡ 47 → ⊥) → (byte rest 0 ≡ 98 → ⊥) → quotes rest ≡ false → k ≡ C.Quote
 
-  block-class : byte rest 0 ≡ 47 → classAt rest ≡ C.BlockComment
-  block-class a = go (classAt rest) (by-byte (classAt rest) refl) (knows-at rest)
-    where
-      go : (k : Class) → Noting k → Knows (byte rest 0) (byte rest 1) (byte rest 2) k → k ≡ C.BlockComment
-      go C.BlockComment block w = refl
-      go C.Triple triple w = absurd (omega (arith, a, w .0))
-      go C.Bytes bytes w = absurd (omega (arith, a, w .0))
-      go C.Quote quote w = absurd (omega (arith, a, w))
-
-  bytes-class : byte rest 0 ≡ 98 → classAt rest ≡ C.Bytes
-  bytes-class a = go (classAt rest) (by-byte (classAt rest) refl) (knows-at rest)
-    where
-      go : (k : Class) → Noting k → Knows (byte rest 0) (byte rest 1) (byte rest 2) k → k ≡ C.Bytes
-      go C.BlockComment block w = absurd (omega (arith, a, w .0))
-      go C.Triple triple w = absurd (omega (arith, a, w .0))
-      go C.Bytes bytes w = refl
-      go C.Quote quote w = absurd (omega (arith, a, w))
-
-  literal-class : (byte rest 0 ≡ 47 → ⊥) → (byte rest 0 ≡ 98 → ⊥) → quotes rest ≡ false → classAt rest ≡ C.Quote
+  front : (k : Class) → Noting k → FirstBytes (byte rest 0) (byte rest 1) (byte rest 2) k → Front k
   unfolding quotes
-  literal-class a b z = go (classAt rest) (by-byte (classAt rest) refl) (knows-at rest)
-    where
-      go : (k : Class) → Noting k → Knows (byte rest 0) (byte rest 1) (byte rest 2) k → k ≡ C.Quote
-      go C.BlockComment block w = absurd (a (w .0))
-      go C.Triple triple w = true-false (quotes rest) (rw (w .0, w .1 .0, w .1 .1)) z
-      go C.Bytes bytes w = absurd (b (w .0))
-      go C.Quote quote w = refl
+  front C.BlockComment block w =
+      record { slash = λ a. refl; letter = λ a. absurd (omega (arith, a, w .0)); other = λ a b z. absurd (a (w .0)) }
+  front C.Triple triple w =
+      record {
+        slash = λ a. absurd (omega (arith, a, w .0));
+        letter = λ a. absurd (omega (arith, a, w .0));
+        other = λ a b z. true-false (quotes rest) (rw (w .0, w .1 .0, w .1 .1)) z;
+      }
+  front C.Bytes bytes w = record { slash = λ a. absurd (omega (arith, a, w .0)); letter = λ a. refl; other = λ a b z. absurd (b (w .0)) }
+  front C.Quote quote w =
+      record { slash = λ a. absurd (omega (arith, a, w)); letter = λ a. absurd (omega (arith, a, w)); other = λ a b z. refl }
 
-  pub block-report : byte rest 0 ≡ 47 → notesIn r limit rest ≡ noteAtStart reasons.openBlockComment ∷ []
+  front-is : Front (classAt rest)
+  front-is = front (classAt rest) (noting (modeOf r) limit rest (classAt rest) (some-by (classAt rest) refl)) (first-bytes-at rest)
+
+  -- room for one report, where there is one
+  pub record OneReport (reason : ℕ) : Type 0 where
+    pub is : notesIn r limit rest ≡ noteAtStart reason ∷ []
+    pub room-for : at + reportWidth ≤ room
+
+  one : {k : ℕ} → notesIn r limit rest ≡ noteAtStart k ∷ [] → OneReport k
+  one e = record { is = e; room-for = omega (arith, q .fits, notes-length text (p .offset) (notesIn r limit rest), ap length e) }
+
+  pub block-report : byte rest 0 ≡ 47 → OneReport reasons.openBlockComment
   unfolding lexer.notesBy
-  block-report a =
-      let z = block-class a in
-      notes-by ∙ rw z (block-one (modeOf r) rest (some-by C.BlockComment z))
+  block-report a = let z = front-is .slash a in one (notes-by ∙ rw z (block-one (modeOf r) rest (some-by C.BlockComment z)))
 
-  pub triple-report : quotes rest ≡ true → notesIn r limit rest ≡ noteAtStart reasons.openTripleString ∷ []
+  pub triple-report : quotes rest ≡ true → OneReport reasons.openTripleString
   unfolding lexer.notesBy
-  triple-report a =
-      let z = triple-class rest a in
-      notes-by ∙ rw z (triple-one (modeOf r) rest (some-by C.Triple z))
+  triple-report a = let z = triple-class rest a in one (notes-by ∙ rw z (triple-one (modeOf r) rest (some-by C.Triple z)))
 
-  pub bytes-report : byte rest 0 ≡ 98 → notesIn r limit rest ≡ noteAtStart (stopReason (bytesStop limit 0 (drop 2 rest))) ∷ []
+  pub bytes-report : {k : ℕ} → k ≡ stopReason (bytesStop limit 0 (drop 2 rest)) → byte rest 0 ≡ 98 → OneReport k
   unfolding lexer.notesBy bytesNotes
-  bytes-report a =
-      let z = bytes-class a in
-      notes-by ∙ rw z (bytes-one (modeOf r) (bytesStop limit 0 (drop 2 rest)) (some-by C.Bytes z))
+  bytes-report e a =
+      let z = front-is .letter a in
+      rw e (one (notes-by ∙ rw z (bytes-one (modeOf r) (bytesStop limit 0 (drop 2 rest)) (some-by C.Bytes z))))
 
   pub quote-report : (byte rest 0 ≡ 47 → ⊥) → (byte rest 0 ≡ 98 → ⊥) → quotes rest ≡ false → notesIn r limit rest ≡ stringNotes (modeOf r) rest
   unfolding lexer.notesBy
-  quote-report a b c = notes-by ∙ rw (literal-class a b c)
-
-  -- room for one report
-  pub one-room : (k : ℕ) → notesIn r limit rest ≡ noteAtStart k ∷ [] → at + reportWidth ≤ room
-  one-room k e = omega (arith, q .fits, notes-length text (p .offset) (notesIn r limit rest), ap length e)
+  quote-report a b c = notes-by ∙ rw (front-is .other a b c)

@@ -1,4 +1,4 @@
--- Strict lexers make no report: by cases on the class. Assumes nothing.
+-- For crate `reading`: strict lexers make no report. By cases on the class. Assumes nothing.
 use mathlib.Core.Path.{_≡_, refl}
 use mathlib.Core.List.{List, []}
 use Prim.Native.Nat.{ℕ}

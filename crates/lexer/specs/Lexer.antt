@@ -1,16 +1,13 @@
 -- The token at the front of the rest of a text: `next_token` of lexer.rs, after its blanks.
-use mathlib.Core.Path.{_≡_}
 use mathlib.Core.Bool.{_&&_}
 use mathlib.Core.List.{List, []}
 use Prim.Native.Nat.{ℕ}
+use Prim.Native.Char.{code}
 use lib.Dec.{eqb}
 use lib.ListN.{length}
 use Rattle.base.specs.Choice.{pick}
 use Rattle.base.specs.Bytes.{byte}
 use Rattle.base.specs.Classes.{isDigit, isIdentStart}
-use Rattle.utf8.specs.Grammar.{Octets}
-use Rattle.token.specs.Kind.{isNewline}
-use Rattle.token.specs.declared.kind.TokenKind.{TokenKind}
 use Rattle.token.specs.declared.kind.TokenKind.the-variants as K
 use Rattle.lexeme.specs.Lexeme.{whole, bare, Note}
 use Rattle.lexeme.specs.declared.Lexeme.{Lexeme}
@@ -25,54 +22,37 @@ use Rattle.triple_strings.specs.Triple.{lexTripleString, tripleBytes, tripleNot
 use Rattle.lexer.specs.declared.class.Class.{Class}
 use Rattle.lexer.specs.declared.class.Class.the-variants as C
 
--- the kind of the mark that a byte is, a newline or a token of one byte, and Eof where it is none
-unfoldable pub markOf : ℕ → TokenKind
-markOf a =
-    pick (eqb a 10) K.Newline
-    (pick (eqb a 123) K.LBrace
-    (pick (eqb a 125) K.RBrace
-    (pick (eqb a 91) K.LBracket
-    (pick (eqb a 93) K.RBracket
-    (pick (eqb a 40) K.LParen
-    (pick (eqb a 41) K.RParen
-    (pick (eqb a 61) K.Equals
-    (pick (eqb a 58) K.Colon
-    (pick (eqb a 44) K.Comma K.Eof)))))))))
-
--- the token of a mark: a newline has no value, any other mark is its own
-unfoldable pub markLexeme : TokenKind → Lexeme
-markLexeme k = pick (isNewline k) (bare k 1) (whole k 1)
+-- Types of the code (src/class.rt). `Class`, which lexer reads a token: `Newline`, `LineComment`, `BlockComment`; `Triple`, after three quotes;
+-- `Quote`; `Bytes`, after `b` and a quote; `Single kind`, a token of one byte; `Directive`, after `@`; `Number`, after a sign or a digit; `Name`;
+-- `Other`, none of these.
+-- Types that other files explain: `TokenKind` in token/specs/Kind.antt; `Lexeme`, `Mode` in lexeme/specs/Lexeme.antt.
 
 -- what the first three bytes choose, in the order of `next_token`
 unfoldable pub classOf : ℕ → ℕ → ℕ → Class
 classOf a b c =
-    pick (eqb a 10) C.Newline
-    (pick (eqb a 35) C.LineComment
-    (pick (eqb a 47) (pick (eqb b 47) C.LineComment (pick (eqb b 42) C.BlockComment C.Other))
-    (pick (eqb a 34) (pick (eqb b 34 && eqb c 34) C.Triple C.Quote)
-    (pick (eqb a 98) (pick (eqb b 34) C.Bytes C.Name)
-    (pick (eqb a 123) (C.Single K.LBrace)
-    (pick (eqb a 125) (C.Single K.RBrace)
-    (pick (eqb a 91) (C.Single K.LBracket)
-    (pick (eqb a 93) (C.Single K.RBracket)
-    (pick (eqb a 40) (C.Single K.LParen)
-    (pick (eqb a 41) (C.Single K.RParen)
-    (pick (eqb a 61) (C.Single K.Equals)
-    (pick (eqb a 58) (C.Single K.Colon)
-    (pick (eqb a 44) (C.Single K.Comma)
-    (pick (eqb a 64) C.Directive
-    (pick (eqb a 43) C.Number
-    (pick (eqb a 45) C.Number
+    pick (eqb a (code "\n")) C.Newline
+    (pick (eqb a (code "#")) C.LineComment
+    (pick (eqb a (code "/")) (pick (eqb b (code "/")) C.LineComment (pick (eqb b (code "*")) C.BlockComment C.Other))
+    (pick (eqb a (code "\"")) (pick (eqb b (code "\"") && eqb c (code "\"")) C.Triple C.Quote)
+    (pick (eqb a (code "b")) (pick (eqb b (code "\"")) C.Bytes C.Name)
+    (pick (eqb a (code "{")) (C.Single K.LBrace)
+    (pick (eqb a (code "}")) (C.Single K.RBrace)
+    (pick (eqb a (code "[")) (C.Single K.LBracket)
+    (pick (eqb a (code "]")) (C.Single K.RBracket)
+    (pick (eqb a (code "(")) (C.Single K.LParen)
+    (pick (eqb a (code ")")) (C.Single K.RParen)
+    (pick (eqb a (code "=")) (C.Single K.Equals)
+    (pick (eqb a (code ":")) (C.Single K.Colon)
+    (pick (eqb a (code ",")) (C.Single K.Comma)
+    (pick (eqb a (code "@")) C.Directive
+    (pick (eqb a (code "+")) C.Number
+    (pick (eqb a (code "-")) C.Number
     (pick (isDigit a) C.Number
     (pick (isIdentStart a) C.Name C.Other))))))))))))))))))
 
 -- the class of what stands at the front of a list
 unfoldable pub classAt : List ℕ → Class
 classAt s = classOf (byte s 0) (byte s 1) (byte s 2)
-
--- where a quote stands at the front, the whole is UTF8-octets, as the rest of a well-formed text from a quote on is
-abbrev pub FromQuote : List ℕ → Type 0
-FromQuote s = byte s 0 ≡ 34 → Octets s
 
 -- the token of each class
 unfoldable pub lexBy : Class → Mode → ℕ → List ℕ → Lexeme

@@ -1,3 +1,4 @@
 pub mod Lexer
 pub mod Reading
 pub mod Token
+pub mod Helpers

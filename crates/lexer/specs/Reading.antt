@@ -9,6 +9,9 @@ use Rattle.lexer.specs.Lexer.{lexemeOf, stringOf, notesOf}
 use Rattle.lexer.specs.declared.reading.Reading.{Reading}
 use Rattle.lexer.specs.declared.reading.Reading.the-variants.{Strict, Tolerant}
 
+-- Types of the code (src/reading.rt). `Reading` is `Strict` or `Tolerant`, as the lexers' `Mode` is.
+-- Types that other files explain: `Lexeme`, `Mode` in lexeme/specs/Lexeme.antt.
+
 -- the mode of the lexers in a reading, which is strict or tolerant
 abbrev pub modeOf : Reading → Mode
 modeOf Strict = M.Strict

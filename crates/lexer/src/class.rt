@@ -1,6 +1,7 @@
 // Which lexer a token's first bytes choose.
 ghost use mathlib.Core.Path.{_≡_};
-ghost use Rattle.lexer.specs.Lexer.{markOf, classAt};
+ghost use Rattle.lexer.specs.Lexer.{classAt};
+ghost use Rattle.lexer.specs.Helpers.{markOf};
 use base::class::is_digit;
 use base::class::is_ident_start;
 use base::peek;

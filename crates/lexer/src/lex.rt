@@ -2,7 +2,8 @@
 ghost use mathlib.Core.Path.{_≡_};
 ghost use Prim.Native.Nat.{_<_};
 ghost use lib.ListN.{length};
-ghost use Rattle.lexer.specs.Lexer.{classAt, FromQuote, lexBy, lexemeOf};
+ghost use Rattle.lexer.specs.Lexer.{classAt, lexBy, lexemeOf};
+ghost use Rattle.lexer.specs.Helpers.{FromQuote};
 use crate::class::Class;
 use crate::class::classify;
 use lexeme::Lexeme;

@@ -5,9 +5,10 @@ ghost use lib.Dec.{eqb};
 ghost use lib.ListN.{length};
 ghost use Rattle.base.specs.Choice.{pick};
 ghost use Rattle.utf8.specs.Grammar.{Octets};
-ghost use Rattle.token.specs.Place.{placeAt, Walkable};
-ghost use Rattle.lexer.specs.Lexer.{markLexeme};
-ghost use Rattle.lexer.specs.Token.{startAt, foundFrom, foundAt, placed, tokenOf, nextToken, Ending, Placing, stringSize};
+ghost use Rattle.token.specs.Place.{placeAt};
+ghost use Rattle.token.specs.Helpers.{Walkable};
+ghost use Rattle.lexer.specs.Helpers.{markLexeme, Ending, Placing};
+ghost use Rattle.lexer.specs.Token.{startAt, foundFrom, foundAt, placed, tokenOf, nextToken, stringSize};
 use crate::class::mark;
 use crate::reading::Reading;
 use crate::reading::lex_in;
@@ -42,7 +43,7 @@ pub struct Token {
 }
 
 // Where the token after an offset starts: past the blanks.
-pub fn skip_spaces(text: &[u8], at: usize) -> usize
+fn skip_spaces(text: &[u8], at: usize) -> usize
     ensures { λ r. ⌜ r ≡ startAt (now (text .entry)) at ⌝ }
 {
     reach_run(Run::Blank, text, at)

@@ -4,13 +4,12 @@ ghost use Prim.Native.Nat.{_+_, _≤_};
 ghost use lib.ListN.{length, drop};
 ghost use lib.Seq.{sets};
 ghost use Rattle.token.specs.Layout.{reportWidth};
-ghost use Rattle.token.specs.Place.{Walkable};
-ghost use Rattle.token.specs.Reason as reasons;
+ghost use Rattle.token.specs.Helpers.{Walkable, lastReason};
 ghost use Rattle.lexeme.specs.Lexeme.{noteAtStart};
-ghost use Rattle.lexeme.specs.Reports.{notesNumbers};
+ghost use Rattle.lexeme.specs.Helpers.{notesNumbers};
 ghost use mathlib.Core.List.{[], _∷_};
 ghost use Rattle.lexer.specs.Reading.{stringIn, notesIn};
-ghost use Rattle.lexer.specs.Token.{StringFront, ReportRoom};
+ghost use Rattle.lexer.specs.Helpers.{StringFront, ReportRoom};
 use crate::reading::Reading;
 use base::peek;
 use lexeme::put_report;
@@ -35,7 +34,7 @@ pub fn put_string(s: &[u8], mode: Reading, len: usize, size: usize, out: &mut [u
 
 // Writes a report at the place where a token starts.
 fn put_at_start(text: &[u8], start: Place, reason: usize, out: &mut [i64], at: usize)
-    requires { ⌜ Walkable (now text) start (start .offset) × (reason ≤ reasons.last) × (at + reportWidth ≤ length (now out)) ⌝ }
+    requires { ⌜ Walkable (now text) start (start .offset) × (reason ≤ lastReason) × (at + reportWidth ≤ length (now out)) ⌝ }
     ensures { λ r. ⌜ now (out .exit) ≡ sets (now (out .entry)) at (notesNumbers (now (text .entry)) (start .offset) (noteAtStart reason ∷ [])) ⌝ }
 {
     put_report(start, reason, 0, out, at);

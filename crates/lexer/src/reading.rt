@@ -1,6 +1,6 @@
 // How a text is read: the mode of a reading, above the mode of the lexers.
 ghost use mathlib.Core.Path.{_≡_};
-ghost use Rattle.lexer.specs.Lexer.{FromQuote};
+ghost use Rattle.lexer.specs.Helpers.{FromQuote};
 ghost use Rattle.lexer.specs.Reading.{modeOf, lexemeIn};
 use crate::lex::lex_one;
 use lexeme::Lexeme;

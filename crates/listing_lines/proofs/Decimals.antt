@@ -1,4 +1,5 @@
--- The digits of a number write it: read as document 01 reads a number, they give it back. By induction on the digits. Assumes nothing.
+-- `decimal-value`, a result of its own: the digits of a number, read as document 01 reads a number, give it back. By induction on the digits. Assumes
+-- nothing.
 use mathlib.Core.Path.{_≡_, refl, _∙_}
 use mathlib.Core.List.{List, [], _∷_, _++_}
 use Prim.Native.Nat.{ℕ, zero, suc, _+_, _-_, _*_, _/_, _%_, _^_, _<_}

@@ -1,5 +1,4 @@
--- Document 01's example is listed as the paper says, by one computation: every definition between the bytes and the lines is unfolded. Assumes
--- nothing.
+-- Document 01's example is listed as the paper says, by one computation: every definition from the bytes to the lines is unfolded. Assumes nothing.
 use mathlib.Core.Path.{refl}
 use lib.Ieee.{mul, div, ofInt, toUnsigned}
 use Rattle.base.specs.Runs.{run, reach, walk, past}
@@ -10,7 +9,7 @@ use Rattle.utf8.specs.Check.{checkOf}
 use Rattle.go_duration.specs.Fraction.{scaleOf, productOf, nanosOf, addDigit, readDigits, fracOf, fractionNanos}
 use Rattle.go_duration.specs.Units.{units, unitOf, valueFrom}
 use Rattle.go_duration.specs.Parse.{wholeEnd, hasPoint, fractionStart, fractionEnd, unitEnd, wholeOf, partUnit, partFraction}
-use Rattle.go_duration.specs.Parse.{digitless, partOf, sumFrom, finish, unsigned, parseOf}
+use Rattle.go_duration.specs.Parse.{digitless, partOf, sumFrom, withSign, unsigned, parseOf}
 use Rattle.token.specs.Kind.{kindNumber}
 use Rattle.token.specs.Place.{placeAt}
 use Rattle.scan.specs.Run.{inRun, unitPiece}
@@ -28,5 +27,10 @@ use Rattle.listing_lines.specs.Listing.{printed}
 use Rattle.listing_lines.specs.Example.{ExampleListed}
 
 pub example-holds : ExampleListed
-unfolding run reach walk past sameBytes isDigit isLowerAlpha isIdentStart isIdentPart isDurationUnit isSpace utf8-char charSize validTo checkOf scaleOf productOf nanosOf addDigit readDigits fracOf fractionNanos units unitOf valueFrom wholeEnd hasPoint fractionStart fractionEnd unitEnd wholeOf partUnit partFraction digitless partOf sumFrom finish unsigned parseOf mul div ofInt toUnsigned kindNumber placeAt inRun unitPiece nameKind lexIdent lexPrecision pastPoint pastSign pastExponent pastFraction atDurationUnit lexDuration valueEnd lexTail lexDigits atInf lexNumber classOf classAt lexBy lexemeOf lexemeIn startAt foundAt nextToken stringSize digitsOf andThen tokensFor tokensTo tokens recordsOf lineText linesOf printed
+unfolding run reach walk past sameBytes isDigit isLowerAlpha isIdentStart isIdentPart isDurationUnit isSpace utf8-char charSize validTo checkOf
+    scaleOf productOf nanosOf addDigit readDigits fracOf fractionNanos units unitOf valueFrom wholeEnd hasPoint fractionStart fractionEnd
+    unitEnd wholeOf partUnit partFraction digitless partOf sumFrom withSign unsigned parseOf mul div ofInt toUnsigned kindNumber placeAt inRun
+    unitPiece nameKind lexIdent lexPrecision pastPoint pastSign pastExponent pastFraction atDurationUnit lexDuration valueEnd lexTail
+    lexDigits atInf lexNumber classOf classAt lexBy lexemeOf lexemeIn startAt foundAt nextToken stringSize digitsOf andThen tokensFor
+    tokensTo tokens recordsOf lineText linesOf printed
 example-holds = refl

@@ -1,4 +1,4 @@
--- An out buffer that is short, and one that holds the lines. By the test of its length. Assumes nothing.
+-- For `put_refusal` and `list`: an out buffer that is short, and one that holds the lines. By the test of its length. Assumes nothing.
 use mathlib.Core.Path.{_≡_, ap, _∙_}
 use mathlib.Core.Bool.{Bool, true, false}
 use mathlib.Core.List.{List}

@@ -1,8 +1,8 @@
-pub mod Decimals
-pub mod Lines
-pub mod Pieces
-pub mod Measures
-pub mod Fills
-pub mod Listings
+mod Decimals
+mod Lines
+mod Pieces
+mod Measures
+mod Fills
+mod Listings
 pub mod Suffices
-pub mod ExampleHolds
+mod ExampleHolds

@@ -1,6 +1,6 @@
--- The lines of a listing: how long they are, what is left of a line after some numbers, and that the rows of a slice that holds records are the
--- lines of these. By induction on the list. Assumes nothing.
-use mathlib.Core.Path.{_≡_, refl, sym, ap}
+-- For the loops over lines and for `list`: how long lines are, what is left of a line after some numbers and of a slice's rows after some records,
+-- and that the rows of a slice that holds records are the lines of these. By induction on the list. Assumes nothing.
+use mathlib.Core.Path.{_≡_, refl, sym}
 use mathlib.Core.List.{List, [], _∷_, _++_, append-assoc}
 use Prim.Native.Nat.{ℕ, suc, _+_, _-_, _*_, _≤_, _<_}
 use native.Mathlib.Nat.{sub-zero}
@@ -14,8 +14,8 @@ use Rattle.notation.proofs.Digits.{number-most}
 use Rattle.token.specs.Layout.{recordWidth}
 use Rattle.token.specs.declared.layout.Record.{Record}
 use Rattle.reading.specs.Buffers.{recordRows}
-use Rattle.listing_lines.specs.Lines.{lineText, lineNumbers, linesOf, refusedLine}
-use Rattle.listing_lines.specs.Rows.{rowNumbers, rowLines}
+use Rattle.listing_lines.specs.Lines.{lineText, linesOf, refusedLine}
+use Rattle.listing_lines.specs.Rows.{lineAt, rowLines}
 
 -- ---- one line
 
@@ -60,7 +60,7 @@ rowsFrom T count i = rowLines (count - i) (drop (i * recordWidth) T)
 pub rows-start : (T : List ℤ) (count : ℕ) → rowsFrom T count 0 ≡ rowLines count T
 rows-start T count = rw (sub-zero count)
 
-pub rows-at : (T : List ℤ) (count i : ℕ) → i < count → rowsFrom T count i ≡ lineText (rowNumbers (drop (i * recordWidth) T)) ++ rowsFrom T count (i + 1)
+pub rows-at : (T : List ℤ) (count i : ℕ) → i < count → rowsFrom T count i ≡ lineText (lineAt (drop (i * recordWidth) T)) ++ rowsFrom T count (i + 1)
 unfolding rowLines
 rows-at T count i h =
     let e : count - i ≡ suc (count - (i + 1)) = omega arith in
@@ -77,4 +77,4 @@ rows-done T count i h =
 pub rows-held : (rs : List Record) (rest : List ℤ) → rowLines (length rs) (recordRows rs ++ rest) ≡ linesOf rs
 unfolding rowLines recordRows linesOf
 rows-held [] rest = refl
-rows-held (r ∷ rs) rest = ap (λ (l : List ℕ). lineText (lineNumbers r) ++ l) (rows-held rs rest)
+rows-held (r ∷ rs) rest = rw (rows-held rs rest)

@@ -1,6 +1,6 @@
--- What the reading's answer is to the listing: an accepted one leaves rows whose lines are those of the tokens, and any other is refused by
--- its number. By cases on the answer. Assumes nothing.
-use mathlib.Core.Path.{_≡_, refl, sym, ap, _∙_, subst}
+-- For `list`: an accepted reading leaves rows whose lines are those of the tokens, any other is listed by its number, and a short out buffer leaves
+-- all as it was. By cases on the answer. Assumes nothing.
+use mathlib.Core.Path.{_≡_, refl, sym, ap, _∙_}
 use mathlib.Core.Bool.{Bool, true, false}
 use mathlib.Core.Logic.{_⊎_, inl, inr, ⊎-elim}
 use mathlib.Core.List.{List, _++_}
@@ -23,7 +23,7 @@ use Rattle.reading.specs.declared.refusal.Refusal.{Refusal}
 use Rattle.reading.specs.declared.text.ReadText.{ReadText}
 use Rattle.reading.specs.declared.text.ReadText.the-variants as text-is
 use Rattle.reading.proofs.Refusals.{number-some}
-use Rattle.reading.proofs.Uses.{counted}
+use Rattle.reading.proofs.AnswerBounds.{counted}
 use Rattle.listing_lines.specs.Lines.{refusedLine}
 use Rattle.listing_lines.specs.Listing.{tokenLines, listingOf, linesSize, Fills, Untouched, Lists}
 use Rattle.listing_lines.specs.Rows.{rowLines}
@@ -42,12 +42,12 @@ module _ {text : List ℕ} {T : List ℤ} {S : List ℕ} {R : List ℤ} {r : Rea
   -- lines that are those of the answer fill the out buffer as the contract says, where it is not shorter than the tokens' lines
   lists : {lines O : List ℕ} {l : Listed} {O′ : List ℕ} → linesSize text ≤ length O → Fills lines O l O′ → lines ≡ listingOf text r
       → Lists text T S R O l T′ S′ R′ O′
-  lists {O = O} {l = l} {O′ = O′} h f e =
+  lists h f e =
       record {
         short = λ k. absurd (omega arith);
         enough = λ k. record {
-          reads = subst (λ (x : ReadText). ReadsText Strict maxBytesLiteralLength text T S R x T′ S′ R′) (w .answer) w;
-          fills = subst (λ (x : List ℕ). Fills x O l O′) (e ∙ ap (listingOf text) (w .answer)) f;
+          reads = rw (w .answer) at w;
+          fills = rw (e, w .answer) at f;
         };
       }
 
@@ -57,7 +57,7 @@ module _ {text : List ℕ} {T : List ℤ} {S : List ℕ} {R : List ℤ} {r : Rea
     rows-are =
         let rs = wholeLaid Strict maxBytesLiteralLength text .records in
         let d : T′ ≡ recordRows rs ++ drop (length (recordRows rs)) T = rw e at (w .lays .records) in
-        rw (counted w e .0, d) (rows-held rs (drop (length (recordRows rs)) T))
+        rw (counted w e .of-tokens, d) (rows-held rs (drop (length (recordRows rs)) T))
 
     -- which were counted before
     pub size-is : linesSize text ≡ length (tokenLines text)

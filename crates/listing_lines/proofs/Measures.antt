@@ -1,14 +1,14 @@
--- The lines of a text's tokens, counted token by token: what is left of them, from a place on, makes the whole with what is counted. By
--- induction on the tokens. Assumes nothing.
-use mathlib.Core.Path.{_≡_, refl, ap, _∙_}
+-- For `lines_size`: the lines of a text's tokens, counted token by token; what is left of them from a place on makes the whole with what is counted.
+-- By induction on the tokens. Assumes nothing.
+use mathlib.Core.Path.{_≡_, refl}
 use mathlib.Core.List.{List, [], _∷_, _++_}
 use Prim.Native.Nat.{ℕ, _+_, _-_, _*_, _≤_, _<_}
 use native.Mathlib.Omega.{arith}
 use lib.ListN.{length}
 use Rattle.base.specs.Bytes.{AreBytes}
 use Rattle.limits.specs.Limits.{maxMessageSize, maxBytesLiteralLength}
-use Rattle.token.specs.Layout.{RecordFits}
-use Rattle.token.specs.Place.{firstPlace, Walkable}
+use Rattle.token.specs.Helpers.{RecordFits, Walkable}
+use Rattle.token.specs.Place.{firstPlace}
 use Rattle.token.specs.declared.place.Place.{Place}
 use Rattle.token.proofs.KindNumbers.{IsEof}
 use Rattle.token.proofs.Places.{first-walkable, to-place}
@@ -27,16 +27,11 @@ use Rattle.listing_lines.proofs.Pieces.{Counting, counting-start, count
 lines-any : (p q : ℕ) (ts : List Token) → linesOf (recordsOf p ts) ≡ linesOf (recordsOf q ts)
 unfolding recordsOf linesOf
 lines-any p q [] = refl
-lines-any p q (t ∷ ts) =
-    ap (λ (l : List ℕ). lineText (lineNumbers (recordOf p t)) ++ l) (lines-any (p + stringSize (t .kind) (t .size)) (q + stringSize (t .kind) (t .size)) ts)
+lines-any p q (t ∷ ts) = let z = stringSize (t .kind) (t .size) in rw (lines-any (p + z) (q + z) ts)
 
 lines-more : (t : Token) (ts : List Token) → linesOf (recordsOf 0 (t ∷ ts)) ≡ lineText (lineNumbers (recordOf 0 t)) ++ linesOf (recordsOf 0 ts)
 unfolding recordsOf linesOf
-lines-more t ts = ap (λ (l : List ℕ). lineText (lineNumbers (recordOf 0 t)) ++ l) (lines-any (0 + stringSize (t .kind) (t .size)) 0 ts)
-
-lines-none : linesOf (recordsOf 0 []) ≡ []
-unfolding recordsOf linesOf
-lines-none = refl
+lines-more t ts = rw (lines-any (0 + stringSize (t .kind) (t .size)) 0 ts)
 
 -- the lines from an offset on
 abbrev linesFrom : List ℕ → ℕ → List ℕ
@@ -61,11 +56,10 @@ module _ {text : List ℕ} {p : Place} {n : ℕ} (w : Measuring text p n) {t : T
   line-few = omega (arith, line-most (lineNumbers (recordOf 0 t)))
 
   pub measuring-end : {k : ℕ} → k ≡ length (lineText (lineNumbers (recordOf 0 t))) → IsEof (t .kind) → n + k ≡ length (tokenLines text)
+  unfolding recordsOf linesOf
   measuring-end l c =
-      let q = eof-of Strict maxBytesLiteralLength text (p .offset) (w .walkable .inside) t e c in
-      let line = lineText (lineNumbers (recordOf 0 t)) in
-      let d : linesFrom text (p .offset) ≡ line ++ [] = rw q (lines-more t [] ∙ ap (λ (x : List ℕ). line ++ x) lines-none) in
-      counting-end (counting-turn (w .counted) line d (omega arith)) refl
+      let d = eof-of Strict maxBytesLiteralLength text (p .offset) (w .walkable .inside) t e c in
+      counting-end (counting-turn (w .counted) (lineText (lineNumbers (recordOf 0 t))) (rw d) (omega arith)) refl
 
   module _ (c : IsEof (t .kind) → ⊥) where
     pub measuring-less : length text - t .end .offset < length text - p .offset

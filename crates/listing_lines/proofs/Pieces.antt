@@ -1,4 +1,5 @@
--- A text that is measured or written piece by piece: what is left of it, added to what is done, makes the whole. Assumes nothing.
+-- For the loops `line_size`, `lines_size`, `put_line` and `put_lines`, which count or write piece by piece: what is left, after what is done, makes
+-- the whole. Assumes nothing.
 use mathlib.Core.Path.{_≡_, refl, sym, ap, _∙_}
 use mathlib.Core.List.{List, [], _++_}
 use Prim.Native.Nat.{ℕ, _+_}

@@ -1,7 +1,7 @@
--- Which lengths suffice for a text of at most 8,192 bytes: nothing is refused but what isn't UTF-8, and a line has at most 48 bytes. By
--- induction on the tokens. Assumes nothing.
-use mathlib.Core.Path.{_≡_, refl, ap, subst}
-use mathlib.Core.List.{List, [], _∷_}
+-- For the crate `listing`: buffers that suffice for a text of at most 8,192 bytes. Nothing is refused but what isn't UTF-8, and a line has at most
+-- 48 bytes. By induction on the tokens. Assumes nothing.
+use mathlib.Core.Path.{_≡_, refl, ap}
+use mathlib.Core.List.{List}
 use Prim.Native.Nat.{ℕ, _+_, _*_, _≤_, _<_}
 use native.Mathlib.Omega.{arith}
 use lib.ListN.{length, drop, length-append}
@@ -11,15 +11,12 @@ use Rattle.base.specs.Buffers.{overlay}
 use Rattle.limits.specs.Limits.{maxMessageSize, maxBytesLiteralLength}
 use Rattle.token.specs.Kind.{kindNumber}
 use Rattle.token.specs.Layout.{recordWidth, reportWidth}
-use Rattle.token.specs.Place.{placeAt}
-use Rattle.token.specs.declared.place.Place.{Place}
 use Rattle.token.proofs.KindNumbers.{number-le}
-use Rattle.token.proofs.Places.{place-moved}
 use Rattle.utf8.specs.Check.{checkOf}
 use Rattle.utf8.specs.declared.check.Verdict.{Verdict}
 use Rattle.utf8.specs.declared.check.Verdict.the-variants.{WellFormed, IllFormed}
 use Rattle.lexer.specs.declared.reading.Reading.the-variants.{Strict}
-use Rattle.lexer.specs.Token.{nextToken, stringSize}
+use Rattle.lexer.specs.Token.{stringSize}
 use Rattle.lexer.specs.declared.next.Token.{Token}
 use Rattle.notation.specs.Decimal.{numberText}
 use Rattle.notation.proofs.Digits.{digits-few, number-most}
@@ -31,8 +28,8 @@ use Rattle.reading.specs.Passes.{Room, sufficeFor}
 use Rattle.reading.specs.declared.judge.Judged.the-variants.{Fit, Unfit}
 use Rattle.reading.specs.declared.refusal.Refusal.the-variants.{NotUtf8}
 use Rattle.reading.specs.declared.text.ReadText.the-variants as text-is
-use Rattle.reading.proofs.Nexts.{Read, reads}
-use Rattle.reading.proofs.From.{by-tokens}
+use Rattle.reading.proofs.NextToken.{Read, start-bounded}
+use Rattle.reading.proofs.From.{by-each}
 use Rattle.reading.proofs.Fits.{tokens-fit, suffice-room}
 use Rattle.listing_lines.specs.Lines.{lineText, lineNumbers, linesOf, refusedLine}
 use Rattle.listing_lines.specs.Listing.{answerOf, tokenLines, listingOf, linesSize, Fills, Lists, printed, Suffice, Prints}
@@ -49,41 +46,26 @@ two n h = digits-few 20 1 n (omega arith)
 
 -- the line of a token of a text of at most 8,192 bytes
 module _ (text : List ℕ) (h : length text ≤ 8192) where
-  line-fits : (at : ℕ) (t : Token) → Read Strict maxBytesLiteralLength text at t → (p : ℕ) → length (lineText (lineNumbers (recordOf p t))) ≤ 48
+  line-fits : {at : ℕ} {t : Token} → Read Strict maxBytesLiteralLength text at t → (p : ℕ) → length (lineText (lineNumbers (recordOf p t))) ≤ 48
   unfolding lineText
-  line-fits at t r p =
-      let w = place-moved text (t .start .offset) (omega (arith, r .ordered, r .inside)) in
-      let line : t .start .line ≡ placeAt text (t .start .offset) .line = ap (λ (q : Place). q .line) (r .start-true) in
-      let column : t .start .column ≡ placeAt text (t .start .offset) .column = ap (λ (q : Place). q .column) (r .start-true) in
-      let a = four (t .start .offset) (omega (arith, r .ordered, r .inside)) in
-      let b = four (t .end .offset) (omega (arith, r .inside)) in
-      let c = four (t .start .line) (omega (arith, r .ordered, r .inside, w .line)) in
-      let d = four (t .start .column) (omega (arith, r .ordered, r .inside, w .column)) in
+  line-fits {t = t} r p =
+      let l = start-bounded r in
+      let a = four (t .start .offset) (omega arith) in
+      let b = four (t .end .offset) (omega arith) in
+      let c = four (t .start .line) (omega arith) in
+      let d = four (t .start .column) (omega arith) in
       let e = two (kindNumber (t .kind)) (omega (arith, number-le (t .kind))) in
-      let f = two (t .reason) (omega (arith, r .reason-in)) in
+      let f = two (t .reason) (omega arith) in
       let g = number-most (t .nanos) in
       simp length-append (omega arith)
 
-  lines-fit : (at : ℕ) (t : Token) (ts : List Token) → Read Strict maxBytesLiteralLength text at t
-      → ((p : ℕ) → length (linesOf (recordsOf p ts)) ≤ length ts * 48) → (p : ℕ) → length (linesOf (recordsOf p (t ∷ ts))) ≤ length (t ∷ ts) * 48
-  unfolding recordsOf linesOf
-  lines-fit at t ts r w p =
-      let q = p + stringSize (t .kind) (t .size) in
-      omega (arith, length-append (lineText (lineNumbers (recordOf p t))) (linesOf (recordsOf q ts)), line-fits at t r p, w q)
-
-  none-fit : (p : ℕ) → length (linesOf (recordsOf p [])) ≤ 0
-  unfolding recordsOf linesOf
-  none-fit p = omega arith
-
   lines-most : length (tokenLines text) ≤ 8193 * 48
-  unfolding tokens
+  unfolding tokens recordsOf linesOf
   lines-most =
       let w =
-      by-tokens Strict maxBytesLiteralLength text (λ at ts. (p : ℕ) → length (linesOf (recordsOf p ts)) ≤ length ts * 48)
-      (λ at k e. lines-fit at (nextToken Strict maxBytesLiteralLength text at) [] (reads Strict maxBytesLiteralLength text at k)
-      (λ p. omega (arith, none-fit p)))
-      (λ at ts k c w. lines-fit at (nextToken Strict maxBytesLiteralLength text at) ts (reads Strict maxBytesLiteralLength text at k) w) 0 (omega arith) 0 in
-      omega (arith, w, tokens-fit Strict maxBytesLiteralLength text)
+      by-each Strict maxBytesLiteralLength text (λ at ts. (p : ℕ) → length (linesOf (recordsOf p ts)) ≤ length ts * 48) (λ p. omega arith)
+      (λ at t ts r w p. simp length-append (omega (arith, line-fits r p, w (p + stringSize (t .kind) (t .size))))) 0 (omega arith) 0 in
+      omega (arith, tokens-fit Strict maxBytesLiteralLength text)
 
 module _ (text : List ℕ) (nt ns nr no : ℕ) (h : Suffice (length text) nt ns no) where
   room : Room (wholeLaid Strict maxBytesLiteralLength text) nt ns nr
@@ -140,7 +122,7 @@ module _ {text : List ℕ} {T : List ℤ} {S : List ℕ} {R : List ℤ} {O : Lis
 
   filled : Fills (printed text) O r O′
   filled =
-      subst (λ (l : List ℕ). Fills l O r O′) (printed-is text (length T) (length S) (length R) (length O) h)
+      rw (printed-is text (length T) (length S) (length R) (length O) h) at
       (w .enough (omega (arith, lines-fit-out text (length T) (length S) (length R) (length O) h)) .fills)
 
   bytes-listed : r ≡ Bytes (length (printed text))

@@ -3,8 +3,11 @@ use mathlib.Core.List.{List, [], _∷_, _++_}
 use Prim.Native.Nat.{ℕ}
 use lib.IntN.{ℤ, pos}
 use lib.ListN.{length}
+use Rattle.base.specs.Characters.{ascii}
 use Rattle.notation.specs.Decimal.{numberText, separator}
 use Rattle.token.specs.declared.layout.Record.{Record}
+
+-- Types that other files explain: `Record` in token/specs/Layout.antt.
 
 -- numbers in decimal as one line
 unfoldable pub lineText : List ℤ → List ℕ
@@ -23,4 +26,4 @@ linesOf (r ∷ rs) = lineText (lineNumbers r) ++ linesOf rs
 
 -- "`refused` and the number", with a blank between
 abbrev pub refusedLine : ℕ → List ℕ
-refusedLine n = 114 ∷ 101 ∷ 102 ∷ 117 ∷ 115 ∷ 101 ∷ 100 ∷ 32 ∷ lineText (pos n ∷ [])
+refusedLine n = ascii "refused " ++ lineText (pos n ∷ [])

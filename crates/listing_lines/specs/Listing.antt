@@ -21,6 +21,10 @@ use Rattle.listing_lines.specs.Lines.{linesOf, refusedLine}
 use Rattle.listing_lines.specs.declared.Listed.{Listed}
 use Rattle.listing_lines.specs.declared.Listed.the-variants.{Bytes, OutShort}
 
+-- Types of the code (src/lib.rt). `Listed`: `Bytes n`, how many were written, or `OutShort`, the out buffer is shorter than the lines.
+-- Types that other files explain: `Reading` in lexer/specs/Reading.antt; `ReadText` in reading/specs/Answers.antt; `Refusal` in
+-- reading/specs/Refusals.antt.
+
 -- "strict, default limit": the whole reading with buffers of nt numbers, ns bytes and nr numbers
 abbrev pub answerOf : List ℕ → ℕ → ℕ → ℕ → ReadText
 answerOf text nt ns nr = readTextAnswer Strict maxBytesLiteralLength text nt ns nr
@@ -43,7 +47,8 @@ unfoldable pub linesSize : List ℕ → ℕ
 linesSize text = afterJudge (judgeOf text) (λ r. 0) (length (tokenLines text))
 
 -- the out buffer is short, and nothing is written to any buffer
-pub record Untouched (T : List ℤ) (S : List ℕ) (R : List ℤ) (O : List ℕ) (r : Listed) (T′ : List ℤ) (S′ : List ℕ) (R′ : List ℤ) (O′ : List ℕ) : Type 0 where
+pub record Untouched (T : List ℤ) (S : List ℕ) (R : List ℤ) (O : List ℕ) (r : Listed)
+    (T′ : List ℤ) (S′ : List ℕ) (R′ : List ℤ) (O′ : List ℕ) : Type 0 where
   pub answer : r ≡ OutShort
   pub tokens : T′ ≡ T
   pub strings : S′ ≡ S

@@ -4,12 +4,13 @@ ghost use Prim.Native.Nat.{_+_, _*_, _≤_};
 ghost use lib.ListN.{length, drop};
 ghost use lib.Seq.{sets};
 ghost use Rattle.limits.specs.Limits.{maxMessageSize};
-ghost use Rattle.token.specs.Layout.{recordWidth, RecordFits};
+ghost use Rattle.token.specs.Layout.{recordWidth};
+ghost use Rattle.token.specs.Helpers.{RecordFits};
 ghost use Rattle.utf8.specs.Grammar.{Octets};
 ghost use Rattle.reading.specs.Buffers.{recordOf};
 ghost use Rattle.listing_lines.specs.Lines.{lineText, lineNumbers, refusedLine};
 ghost use Rattle.listing_lines.specs.Listing.{tokenLines, linesSize, Fills, Lists};
-ghost use Rattle.listing_lines.specs.Rows.{rowNumbers, rowLines};
+ghost use Rattle.listing_lines.specs.Rows.{lineAt, rowLines};
 use lexer::next::Token;
 use lexer::next::next_token;
 use lexer::reading::Reading;
@@ -35,7 +36,7 @@ pub enum Listed {
 // The numbers of the line of the record at `i`.
 fn line_numbers(tokens: &[i64], i: usize) -> [i64; 7]
     requires { ⌜ i + recordWidth ≤ length (now tokens) ⌝ }
-    ensures { λ r. ⌜ r ≡ rowNumbers (drop i (now (tokens .entry))) ⌝ }
+    ensures { λ r. ⌜ r ≡ lineAt (drop i (now (tokens .entry))) ⌝ }
 {
     let kind = tokens[i];
     let reason = tokens[i + 1];

@@ -1,4 +1,5 @@
--- Digits written from the last to the first: what is left of the number, written before what stands already, makes the whole. Assumes nothing.
+-- For `put_digits`, `put_number`, `write_number`, `number_size`, and the listing: digits are written from the last to the first. What is left of the
+-- number, written before what stands already, makes the whole. And how long a number is. Assumes nothing.
 use mathlib.Core.Path.{_≡_, refl, sym, ap, _∙_}
 use mathlib.Core.Bool.{true, false}
 use mathlib.Core.List.{List, [], _∷_, _++_, append-assoc}
@@ -10,10 +11,12 @@ use lib.IntN.{ℤ, pos, negsuc, natAbs}
 use lib.Signed.{ltZ}
 use lib.ListN.{length, drop, set, length-set, length-append, length-drop}
 use lib.Seq.{drop-cons, drop-set-lt, getD-set-same}
+use borrow.Author.Needs.{needs}
 use borrow.Author.Tests.{eq-eqb, ne-eqb, le-ltb}
 use Rattle.base.specs.Choice.{pick}
 use Rattle.base.proofs.Tests.{true-false, pick-case}
-use Rattle.notation.specs.Decimal.{digitsOf, decimal, numberText, EndsWith}
+use Rattle.notation.specs.Decimal.{digitsOf, decimal, numberText}
+use Rattle.notation.specs.Helpers.{EndsWith}
 
 pub record Digits (n : ℕ) (out₀ out : List ℕ) (i rest : ℕ) : Type 0 where
   pub low : 1 ≤ i
@@ -62,8 +65,7 @@ module _ {n : ℕ} {out₀ out : List ℕ} {i rest : ℕ} (w : Digits n out₀ o
 
 -- at the start, and where no place is left
 pub digits-start : (n : ℕ) (out : List ℕ) → length out ≡ 22 → n < 2 ^ 64 → Digits n out out 21 n
-digits-start n out l h =
-    record { low = omega arith; high = omega arith; kept = l; some = λ k. absurd (omega arith); few = omega arith; whole = refl }
+digits-start n out l h = search needs
 
 pub digits-end : {n : ℕ} {out₀ out : List ℕ} {i rest : ℕ} → Digits n out₀ out i rest → i ≤ 1 → ⊥
 digits-end {n} {out₀} {out} {i} {rest} w h =
@@ -93,7 +95,7 @@ text-size {text} {out} {out′} {r} w l =
 
 -- ---- how long a number is
 
-pub digits-most : (k n : ℕ) → length (digitsOf k n) ≤ k
+digits-most : (k n : ℕ) → length (digitsOf k n) ≤ k
 unfolding digitsOf
 digits-most zero n = omega arith
 digits-most (suc k) n =

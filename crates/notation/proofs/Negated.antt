@@ -1,4 +1,4 @@
--- The negative of an unsigned number below 2^63 fits 64 bits. By cases on the number. Assumes nothing.
+-- For `signed` of `parse`: the negative of an unsigned number below 2^63 fits 64 bits. By cases on the number. Assumes nothing.
 use Prim.Native.Nat.{ℕ, zero, suc, _<_}
 use native.Mathlib.Omega.{arith}
 use lib.IntN.{pos, negsuc, _-ℤ_, +ℤ-idl}

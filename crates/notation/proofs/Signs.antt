@@ -1,4 +1,4 @@
--- The magnitude of a signed number, by its sign. Assumes nothing.
+-- For `magnitude`: the magnitude of a signed number, by the two cases of its sign. Assumes nothing.
 use mathlib.Core.Path.{_≡_, refl, ap}
 use mathlib.Core.Bool.{true, false}
 use Prim.Native.Nat.{ℕ, suc, _+_, _^_, _<_}

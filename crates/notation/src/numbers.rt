@@ -5,7 +5,8 @@ ghost use Prim.Native.Nat.{_+_, _≤_};
 ghost use lib.IntN.{natAbs};
 ghost use lib.ListN.{length};
 ghost use lib.Seq.{sets};
-ghost use Rattle.notation.specs.Decimal.{decimal, numberText, separator, EndsWith};
+ghost use Rattle.notation.specs.Decimal.{decimal, numberText, separator};
+ghost use Rattle.notation.specs.Helpers.{EndsWith};
 
 // Writes a number in decimal so that it ends before the last of 22 bytes, and gives where it starts. Twenty digits hold any.
 fn put_digits(out: &mut [u8], n: u64) -> usize

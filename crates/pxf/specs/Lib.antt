@@ -2,3 +2,4 @@ pub mod Answers
 pub mod Interface
 pub mod Texts
 pub mod TokenFiles
+pub mod Helpers

@@ -2,7 +2,8 @@
 ghost use mathlib.Core.Path.{_≡_};
 ghost use Rattle.reading.specs.Answers.{readTextValues, readTokenValues, placeOfValues};
 ghost use Rattle.reading.specs.Refusals.{refusalValues};
-ghost use Rattle.pxf.specs.Texts.{sixOf, Fit63};
+ghost use Rattle.pxf.specs.Texts.{sixOf};
+ghost use Rattle.pxf.specs.Helpers.{Fit63};
 use reading::one::ReadToken;
 use reading::place::PlaceOf;
 use reading::refusal::Refusal;

@@ -1,20 +1,17 @@
--- The chain of calls of `read_token`: a call lays what the token after its place lays, so that calls from the first place on lay what the tokens of
--- the text lay, by induction on the calls; and from a place between two characters, no call is refused, by induction on the tokens, each of
--- which ends between two characters (`next-utf8`). Assumes nothing.
-use mathlib.Core.Path.{_≡_, refl, sym, ap, _∙_, subst}
+-- The chain of calls of `read_token` (`Chain`): calls from the first place on lay what the whole reading lays, by induction on the calls; and from a
+-- place none is refused, by induction on the tokens, each of which ends at a place (`next-utf8`). Assumes nothing.
+use mathlib.Core.Path.{_≡_, refl, sym, ap, _∙_}
 use mathlib.Core.Bool.{Bool, true, false}
-use mathlib.Core.List.{List, [], _∷_, _++_, map}
+use mathlib.Core.List.{List}
 use Prim.Native.Nat.{ℕ, _+_, _*_, _≤_}
 use native.Mathlib.Nat.{pos-of-ne-zero}
 use native.Mathlib.Omega.{arith}
 use lib.IntN.{ℤ}
-use lib.ListN.{length, drop}
-use lib.Seq.{take-at}
+use lib.ListN.{length}
+use lib.Seq.{sets}
 use Rattle.base.specs.Choice.{pick}
-use Rattle.base.specs.Buffers.{overlay}
-use Rattle.base.proofs.Stores.{overlaid}
 use Rattle.limits.specs.Limits.{maxMessageSize}
-use Rattle.utf8.specs.Grammar.{Boundary, validTo}
+use Rattle.utf8.specs.Grammar.{validTo}
 use Rattle.utf8.specs.Check.{checkOf}
 use Rattle.utf8.specs.declared.check.Verdict.the-variants.{WellFormed}
 use Rattle.utf8.proofs.Boundaries.{boundary-start, boundary-between, not-inside}
@@ -26,69 +23,45 @@ use Rattle.token.specs.declared.layout.Record.{Record}
 use Rattle.token.specs.declared.layout.Report.{Report}
 use Rattle.token.specs.declared.place.Place.{Place}
 use Rattle.token.proofs.KindNumbers.{IsEof}
-use Rattle.lexeme.specs.Reports.{reportOf, notesNumbers}
-use Rattle.lexeme.proofs.Notes.{notes-length}
-use Rattle.lexer.specs.Reading.{stringIn, notesIn}
 use Rattle.lexer.specs.Token.{foundAt, nextToken, stringSize}
 use Rattle.lexer.specs.declared.next.Token.{Token}
 use Rattle.lexer.specs.declared.reading.Reading.{Reading}
-use Rattle.lexer.proofs.Founds.{next-utf8}
+use Rattle.lexer.proofs.FoundToken.{next-utf8}
 use Rattle.reading.specs.Tokens.{tokensFrom, tokens}
-use Rattle.reading.specs.Buffers.{recordOf, recordsOf, stringsOf, reportsOf, recordRows, reportRows, Laid, laidFrom, wholeLaid, oneLaid}
+use Rattle.reading.specs.Buffers.{recordOf, recordsOf, stringsOf, reportsOf, recordRows, Laid, laidFrom, wholeLaid}
 use Rattle.reading.specs.Answers.{isPlace}
 use Rattle.reading.specs.Chain.{ofOne, Call, withValue, movedBy, Calls, last, more, ChainGivesWhole, ChainRuns}
-use Rattle.reading.proofs.Nexts.{Read, reads, end-offset}
+use Rattle.reading.proofs.NextToken.{stringAt, reportsAt, numbersAt, Read, string-few, reads, end-offset}
 use Rattle.reading.proofs.From.{from-eof, from-more, by-tokens}
-use Rattle.reading.proofs.Rows.{same-record, same-reports, report-rows-length, notes-rows, one-strings, one-reports}
-use Rattle.reading.proofs.Fits.{string-size-le}
+use Rattle.reading.proofs.Rows.{same-record, same-reports, one-strings, one-reports, held-records, held-strings, held-reports}
 use Rattle.reading.proofs.Refusals.{fits}
 use Rattle.reading.proofs.Places.{place-is, is-place}
-use Rattle.reading.proofs.Ones.{done}
-use Rattle.reading.proofs.Uses.{one-answer}
-
--- two layings are equal where their parts are
-same-laid : {a b : Laid} → a .records ≡ b .records → a .strings ≡ b .strings → a .reports ≡ b .reports → a ≡ b
-same-laid {a} {b} p q r =
-    ap (λ (x : List Record). record { records = x; strings = a .strings; reports = a .reports }) p
-    ∙ ap (λ (x : List ℕ). record { records = b .records; strings = x; reports = a .reports }) q
-    ∙ ap (λ (x : List Report). record { records = b .records; strings = b .strings; reports = x }) r
+use Rattle.reading.proofs.TokenAnswers.{done}
+use Rattle.reading.proofs.AnswerBounds.{one-counted, one-end}
 
 module _ (m : Reading) (limit : ℕ) (text : List ℕ) where
   -- the token after a place
-  token : Place → Token
+  abbrev token : Place → Token
   token p = nextToken m limit text (p .offset)
-
-  -- its string and its reports
-  stringAt : Token → List ℕ
-  stringAt t = stringIn m (drop (t .start .offset) text)
-
-  reportsAt : Token → List Report
-  reportsAt t = map (reportOf text (t .start .offset)) (notesIn m limit (drop (t .start .offset) text))
 
   -- what an accepted call gives
   record Given (p : Place) (r : Record) (bytes : List ℕ) (reports : List Report) (q : Place) : Type 0 where
     row : r ≡ recordOf 0 (token p)
-    string : bytes ≡ stringAt (token p)
-    reported : reports ≡ reportsAt (token p)
+    string : bytes ≡ stringAt m text (token p)
+    reported : reports ≡ reportsAt m limit text (token p)
     end : q ≡ token p .end
 
   given : {p q : Place} {r : Record} {bytes : List ℕ} {reports : List Report} → Call m limit text p (ofOne r bytes reports) q → Given p r bytes reports q
-  unfolding recordsOf recordRows token stringAt reportsAt
+  unfolding recordsOf recordRows
   given {p} {q} {r} {bytes} {reports} c =
-      let t : Token = nextToken m limit text (p .offset) in
-      let l : Laid = oneLaid m limit text (p .offset) in
-      let e = one-answer m limit text p (length (c .T)) (length (c .S)) (length (c .R)) (c .reads .answer) in
-      let es : length (l .strings) ≡ c .s = cc in
-      let ek : c .k ≡ length (l .reports) = cc in
-      let n : length (reportRows (l .reports)) ≡ c .k * reportWidth = rw ek (report-rows-length (l .reports)) in
+      let t = token p in
       let w = c .reads .lays in
+      let n = one-counted (c .reads) refl in
       record {
-        row = same-record r (recordOf 0 t) (sym (c .stored) ∙ rw (w .records));
-        string = sym (c .written) ∙ rw (w .strings) (take-at (l .strings) _ (c .s) es) ∙ one-strings m limit text t;
-        reported =
-            same-reports reports (l .reports) (sym (c .reported) ∙ rw (w .reports) (take-at (reportRows (l .reports)) _ (c .k * reportWidth) n))
-            ∙ one-reports m limit text t;
-        end = cc;
+        row = same-record r (recordOf 0 t) (sym (c .stored) ∙ held-records w n);
+        string = sym (c .written) ∙ held-strings w n ∙ one-strings m limit text t;
+        reported = same-reports reports _ (sym (c .reported) ∙ held-reports w n) ∙ one-reports m limit text t;
+        end = one-end (c .reads) refl;
       }
 
   -- a record moved is the record of the token with its string there
@@ -103,13 +76,12 @@ module _ (m : Reading) (limit : ℕ) (text : List ℕ) where
 
   gives : {n : ℕ} {p : Place} {l : Laid} → Calls m limit text n p l → p .offset ≤ length text
       → l ≡ laidFrom m limit text n (tokensFrom m limit text (p .offset))
-  unfolding recordsOf stringsOf reportsOf token stringAt reportsAt
+  unfolding recordsOf stringsOf reportsOf
   gives (last {n} {p} {q} {r} {bytes} {reports} c z) h =
       let t = token p in
       let g = given c in
       let e : IsEof (t .kind) = sym (ap (λ (x : Record). x .kind) (g .row)) ∙ z in
-      rw (from-eof m limit text (p .offset) h e)
-      (same-laid (ap (λ (x : Record). movedBy n x ∷ []) (g .row) ∙ ap (λ (x : Record). x ∷ []) (moved-is n t)) (g .string ∙ sym (one-strings m limit text t)) (g .reported ∙ sym (one-reports m limit text t)))
+      rw (from-eof m limit text (p .offset) h e, one-strings m limit text t, one-reports m limit text t, g .row, g .string, g .reported, moved-is n t)
   gives (more {n} {p} {q} {r} {bytes} {reports} {l} c z w) h =
       let t = token p in
       let g = given c in
@@ -117,12 +89,8 @@ module _ (m : Reading) (limit : ℕ) (text : List ℕ) where
       let r′ : Read m limit text (p .offset) t = reads m limit text (p .offset) h in
       let o : q .offset ≡ t .end .offset = ap (λ (x : Place). x .offset) (g .end) in
       let b : length bytes ≡ stringSize (t .kind) (t .size) = ap length (g .string) ∙ r′ .string in
-      let v : l ≡ laidFrom m limit text (n + stringSize (t .kind) (t .size)) (tokensFrom m limit text (t .end .offset)) = rw (b, o) at (gives w (omega (arith, r′ .inside))) in
-      rw (from-more m limit text (p .offset) h (λ e. absurd (omega arith)))
-      (same-laid
-      (ap (λ (x : Record). movedBy n x ∷ l .records) (g .row) ∙ ap (λ (x : Record). x ∷ l .records) (moved-is n t) ∙ ap (λ (x : Laid). recordOf n t ∷ x .records) v)
-      (ap (λ (x : List ℕ). x ++ l .strings) (g .string) ∙ ap (λ (x : Laid). stringAt t ++ x .strings) v)
-      (ap (λ (x : List Report). x ++ l .reports) (g .reported) ∙ ap (λ (x : Laid). reportsAt t ++ x .reports) v))
+      let v = rw (b, o) at (gives w (omega arith)) in
+      rw (from-more m limit text (p .offset) h (λ e. absurd (omega arith)), g .row, g .string, g .reported, moved-is n t, v)
 
   -- calls from the first place on lay what the whole reading lays
   pub chain-gives-whole : ChainGivesWhole m limit text
@@ -132,92 +100,90 @@ module _ (m : Reading) (limit : ℕ) (text : List ℕ) where
   -- ---- no call is refused
 
   module _ (h : length text ≤ maxMessageSize) (g : checkOf text ≡ WellFormed) where
-    -- a token that is read from between two characters ends between two
-    end-between : (at : ℕ) → at ≤ length text → Boundary text at → Boundary text (nextToken m limit text at .end .offset)
-    unfolding nextToken
-    end-between at l b = rw (end-offset m limit text at l (foundAt m limit text at) refl) (next-utf8 m limit text at b .end)
-
     valid : validTo text ≡ length text
     valid = sym (whole-end text WellFormed (checked text WellFormed (sym g)) refl)
 
-    -- the place at the end of a token that is read from a place is a place
-    pub end-is-place : (p : Place) → isPlace text p ≡ true → isPlace text (nextToken m limit text (p .offset) .end) ≡ true
-    end-is-place p t =
-        let w = place-is text p t in
-        let r = reads m limit text (p .offset) (w .inside) in
-        let b = not-inside text (p .offset) valid (w .inside) (w .between) in
-        is-place text (nextToken m limit text (p .offset) .end)
+    first-is-place : isPlace text firstPlace ≡ true
+    unfolding placeAt
+    first-is-place =
+        is-place text firstPlace
+        (record { inside = omega arith; between = boundary-between text 0 (boundary-start text valid); true-place = refl })
+
+    -- and so is the place at the end of a token that is read from a place
+    end-is-place : (p : Place) → isPlace text p ≡ true → isPlace text (token p .end) ≡ true
+    unfolding nextToken
+    end-is-place p f =
+        let w = place-is text p f in
+        let at = p .offset in
+        let r = reads m limit text at (w .inside) in
+        let b = next-utf8 m limit text at (not-inside text at valid (w .inside) (w .between) .boundary) .end in
+        is-place text _
         (record {
           inside = r .inside;
-          between = boundary-between text _ (end-between (p .offset) (w .inside) (b .boundary));
+          between = boundary-between text _ (rw (end-offset m limit text at (w .inside) (foundAt m limit text at) refl) b);
           true-place = r .end-true;
         })
 
-    module _ (T : List ℤ) (S : List ℕ) (R : List ℤ) (rt : recordWidth ≤ length T) (rs : length text ≤ length S) (rr : length text * reportWidth ≤ length R) where
-      -- a call from the place of an offset between two characters
-      call : (at : ℕ) → at ≤ length text → Boundary text at → (p : Place) → p .offset ≡ at → p ≡ placeAt text at → (t : Token) → t ≡ nextToken m limit text at
-          → Call m limit text p (ofOne (recordOf 0 t) (stringAt t) (reportsAt t)) (t .end)
-      unfolding stringAt reportsAt recordRows
-      call at l b p o e t d =
-          let r : Read m limit text at t = subst (λ (u : Token). Read m limit text at u) (sym d) (reads m limit text at l) in
-          let ns = notesIn m limit (drop (t .start .offset) text) in
-          let row = recordNumbers (recordOf 0 t) in
-          let str = stringIn m (drop (t .start .offset) text) in
-          let rep = notesNumbers text (t .start .offset) ns in
-          let z = string-size-le (t .kind) (t .size) in
-          let n : length rep ≡ t .reports * reportWidth = notes-length text (t .start .offset) ns ∙ ap (λ (k : ℕ). k * reportWidth) (r .notes) in
-          let ls : length str ≤ length S = omega (arith, r .string, r .size-in, r .inside) in
-          let lr : length rep ≤ length R = omega (arith, r .reports-in, r .inside) in
-          let f : isPlace text p ≡ true =
-          is-place text p
-          (record { inside = omega arith; between = rw o (boundary-between text at b); true-place = e ∙ ap (placeAt text) (sym o) }) in
+    module _ (T : List ℤ) (S : List ℕ) (R : List ℤ) (rt : recordWidth ≤ length T) (rs : length text ≤ length S)
+        (rr : length text * reportWidth ≤ length R) where
+      -- a call from a place
+      call : (p : Place) → isPlace text p ≡ true
+          → let t = token p in Call m limit text p (ofOne (recordOf 0 t) (stringAt m text t) (reportsAt m limit text t)) (t .end)
+      unfolding recordsOf recordRows
+      call p f =
+          let t = token p in
+          let r = reads m limit text (p .offset) (place-is text p f .inside) in
+          let z = string-few r in
+          let d =
+          done
+          (record {
+            fit = fits text h g;
+            place = f;
+            tokens = rt;
+            token = refl;
+            size = refl;
+            strings = omega arith;
+            reports = omega arith;
+          })
+          {T′ = sets T 0 (recordNumbers (recordOf 0 t))} {S′ = sets S 0 (stringAt m text t)} {R′ = sets R 0 (numbersAt m limit text t)}
+          (record { of-record = refl; of-string = refl; of-notes = refl }) in
+          let n = one-counted d refl in
           record {
             T = T;
             S = S;
             R = R;
-            T′ = overlay row T;
-            S′ = overlay str S;
-            R′ = overlay rep R;
+            T′ = sets T 0 (recordNumbers (recordOf 0 t));
+            S′ = sets S 0 (stringAt m text t);
+            R′ = sets R 0 (numbersAt m limit text t);
             s = stringSize (t .kind) (t .size);
             k = t .reports;
-            reads =
-                done
-                (record {
-                  fit = fits text h g;
-                  place = f;
-                  tokens = rt;
-                  token = d ∙ ap (nextToken m limit text) (sym o);
-                  size = refl;
-                  strings = omega (arith, r .string);
-                  reports = omega arith;
-                })
-                (sym (overlaid row T rt)) (sym (overlaid str S ls)) (sym (overlaid rep R lr));
-            stored = refl;
-            written = take-at str (drop (length str) S) (stringSize (t .kind) (t .size)) (r .string);
-            reported = take-at rep (drop (length rep) R) (t .reports * reportWidth) n ∙ sym (notes-rows text (t .start .offset) ns);
+            reads = d;
+            stored = held-records (d .lays) n;
+            written = rw (one-strings m limit text t) at (held-strings (d .lays) n);
+            reported = rw (one-reports m limit text t) at (held-reports (d .lays) n);
           }
 
       -- the calls from it on
       Runs : ℕ → List Token → Type 0
-      Runs at ts =
-          Boundary text at → (n : ℕ) (p : Place) → p .offset ≡ at → p ≡ placeAt text at → Calls m limit text n p (laidFrom m limit text n ts)
+      Runs at ts = (n : ℕ) (p : Place) → p .offset ≡ at → isPlace text p ≡ true → Calls m limit text n p (laidFrom m limit text n ts)
 
       runs : (at : ℕ) → at ≤ length text → Runs at (tokensFrom m limit text at)
-      unfolding Runs recordsOf stringsOf reportsOf stringAt reportsAt
+      unfolding Runs recordsOf stringsOf reportsOf
       runs =
           by-tokens m limit text Runs
-          (λ at l z b n p o e.
-          let t = nextToken m limit text at in
-          rw (one-strings m limit text t, one-reports m limit text t, ← moved-is n t) (last (call at l b p o e t refl) z))
-          (λ at ts l c w b n p o e.
-          let t = nextToken m limit text at in
-          let r = reads m limit text at l in
-          rw (← moved-is n t, ← r .string)
-          (more (call at l b p o e t refl) (pos-of-ne-zero c) (w (end-between at l b) (n + length (stringIn m (drop (t .start .offset) text))) (t .end) refl (r .end-true))))
+          (λ at l z n p o f.
+          let t = token p in
+          rw (← o, one-strings m limit text t, one-reports m limit text t, ← moved-is n t) (last (call p f) (rw (← o) at z)))
+          (λ at ts l c w n p o f.
+          let t = token p in
+          let e : t .end .offset ≡ nextToken m limit text at .end .offset = rw o in
+          let b = reads m limit text (p .offset) (place-is text p f .inside) .string in
+          rw (← o, ← moved-is n t, ← b)
+          (more (call p f) (pos-of-ne-zero (rw (← o) at c)) (w (n + length (stringAt m text t)) (t .end) e (end-is-place p f))))
 
       from-start : Calls m limit text 0 firstPlace (wholeLaid m limit text)
-      unfolding tokens placeAt Runs
-      from-start = runs 0 (omega arith) (boundary-start text valid) 0 firstPlace refl refl
+      unfolding tokens Runs
+      from-start = runs 0 (omega arith) 0 firstPlace refl first-is-place
 
   -- no call from the first place on is refused
   pub chain-runs : ChainRuns m limit text

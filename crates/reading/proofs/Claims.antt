@@ -1,5 +1,6 @@
--- Demand 3 of the tokens of a text: each field by induction on the tokens, from what is known of one token. Assumes nothing.
-use mathlib.Core.Path.{_≡_, refl, ap, _∙_}
+-- For the claim of `read_text`: demand 3 of what the tokens of a text lay, each field by induction on the tokens from what is known of one. Assumes
+-- nothing.
+use mathlib.Core.Path.{_≡_, refl, sym, ap, _∙_}
 use mathlib.Core.Bool.{true, _||_}
 use mathlib.Core.Logic.{inl, inr}
 use mathlib.Core.List.{List, [], _∷_, _++_, map}
@@ -7,8 +8,8 @@ use Prim.Native.Nat.{ℕ, _+_, _-_, _≤_}
 use native.Mathlib.Nat.{pos-of-ne-zero}
 use native.Mathlib.Omega.{arith}
 use lib.Dec.{eqb}
-use lib.ListN.{length, drop, drop-of-length-le, take-append-drop, length-drop}
-use lib.Seq.{drop-drop}
+use lib.ListN.{length, drop, take-append-drop, length-drop}
+use lib.Seq.{drop-drop, drop-length}
 use borrow.Author.Tests.{eqb-true}
 use Rattle.base.specs.Bytes.{byte}
 use Rattle.base.specs.Classes.{isSpace}
@@ -19,9 +20,6 @@ use Rattle.token.specs.declared.place.Place.{Place}
 use Rattle.token.proofs.Places.{place-offset, place-line, place-column}
 use Rattle.lexeme.specs.Lexeme.{Note}
 use Rattle.lexeme.specs.Reports.{reportOf}
-use Rattle.lexer.specs.Reading.{notesIn}
-use Rattle.token.proofs.KindNumbers.{IsEof}
-use Rattle.lexer.specs.Token.{nextToken}
 use Rattle.lexer.specs.declared.next.Token.{Token}
 use Rattle.lexer.specs.declared.reading.Reading.{Reading}
 use Rattle.lexeme.proofs.Notes as notes
@@ -29,8 +27,8 @@ use Rattle.reading.specs.Tokens.{tokensFrom, tokens}
 use Rattle.reading.specs.Buffers.{recordOf, recordsOf, reportsOf, recordRows, reportRows, wholeLaid}
 use Rattle.reading.specs.Claim as claim
 use Rattle.reading.specs.Claim.{bytesOf, pieces, Tiles, Blank, Gaps, OneEof, TruePlace, Each, TokenPlace, ReportPlace, DurationSum, Demand3}
-use Rattle.reading.proofs.Nexts.{Read, reads}
-use Rattle.reading.proofs.From.{by-tokens}
+use Rattle.reading.proofs.NextToken.{Read, reads, notesAt, reportsAt}
+use Rattle.reading.proofs.From.{by-tokens, by-each}
 use Rattle.reading.proofs.Laid.{string-values}
 
 blank : (b : ℕ) → isSpace b ≡ true → Blank b
@@ -65,51 +63,30 @@ record Holds (text : List ℕ) (at : ℕ) (rs : List Record) : Type 0 where
   tiles : Tiles text at rs
   gives-back : pieces text at rs ≡ drop at text
   gaps : Gaps text at rs
-  one-eof : OneEof text rs
   places : Each (TokenPlace text) rs
   durations : Each (DurationSum text) rs
 
 module _ (m : Reading) (limit : ℕ) (text : List ℕ) where
-  -- the facts of one record, whatever follows it
-  module _ (at : ℕ) (h : at ≤ length text) (p : ℕ) (t : Token) (r : Read m limit text at t) where
-    front : bytesOf text at (t .start .offset) ++ (bytesOf text (t .start .offset) (t .end .offset) ++ drop (t .end .offset) text) ≡ drop at text
-    front =
-        ap (λ (l : List ℕ). bytesOf text at (t .start .offset) ++ l) (rejoin text (t .start .offset) (t .end .offset) (r .ordered))
-        ∙ rejoin text at (t .start .offset) (r .after)
-
-    holds-eof : IsEof (t .kind) → Holds text at (recordOf p t ∷ [])
-    holds-eof e =
-        let o : length text ≤ t .end .offset = omega (arith, r .eof-end e) in
-        let d : drop (t .end .offset) text ≡ [] = drop-of-length-le text o in
-        record {
-          tiles = claim.more (r .after) (r .ordered) (r .inside) claim.none;
-          gives-back = rw d at front;
-          gaps = claim.more (λ k a b. blank (byte text k) (r .gap k a b)) claim.none;
-          one-eof = claim.last e (r .eof-start e) (r .eof-end e);
-          places = claim.more (true-place text (t .start .offset) (t .start) (r .start-true) (omega (arith, r .ordered, r .inside))) claim.none;
-          durations = claim.more (r .duration) claim.none;
-        }
-
-    holds-more : (rs : List Record) → (IsEof (t .kind) → ⊥) → Holds text (t .end .offset) rs → Holds text at (recordOf p t ∷ rs)
-    holds-more rs c w =
+  module _ (at : ℕ) (t : Token) (r : Read m limit text at t) where
+    holds-each : (p : ℕ) (rs : List Record) → Holds text (t .end .offset) rs → Holds text at (recordOf p t ∷ rs)
+    holds-each p rs w =
         record {
           tiles = claim.more (r .after) (r .ordered) (r .inside) (w .tiles);
           gives-back =
-              ap (λ (l : List ℕ). bytesOf text at (t .start .offset) ++ (bytesOf text (t .start .offset) (t .end .offset) ++ l)) (w .gives-back)
-              ∙ front;
+              rw (w .gives-back, rejoin text (t .start .offset) (t .end .offset) (r .ordered), rejoin text at (t .start .offset) (r .after));
           gaps = claim.more (λ k a b. blank (byte text k) (r .gap k a b)) (w .gaps);
-          one-eof = claim.more (pos-of-ne-zero c) (r .forward c) (w .one-eof);
           places =
               claim.more (true-place text (t .start .offset) (t .start) (r .start-true) (omega (arith, r .ordered, r .inside))) (w .places);
           durations = claim.more (r .duration) (w .durations);
         }
 
     -- its reports
-    report-places : Each (ReportPlace text) (map (reportOf text (t .start .offset)) (notesIn m limit (drop (t .start .offset) text)))
+    report-places : Each (ReportPlace text) (reportsAt m limit text t)
     unfolding reportOf
-    report-places = go (notesIn m limit (drop (t .start .offset) text)) (r .notes-in)
+    report-places = go (notesAt m limit text t) (r .notes-in)
       where
-        go : (ns : List Note) → notes.NotesIn (length (drop (t .start .offset) text)) ns → Each (ReportPlace text) (map (reportOf text (t .start .offset)) ns)
+        go : (ns : List Note) → notes.NotesIn (length (drop (t .start .offset) text)) ns
+            → Each (ReportPlace text) (map (reportOf text (t .start .offset)) ns)
         go [] notes.none = claim.none
         go (n ∷ ns) (notes.more i w) =
             claim.more
@@ -117,25 +94,39 @@ module _ (m : Reading) (limit : ℕ) (text : List ℕ) where
             (omega (arith, r .ordered, r .inside, length-drop (t .start .offset) text)))
             (go ns w)
 
-  holds-from : (at : ℕ) → at ≤ length text → (p : ℕ) → Holds text at (recordsOf p (tokensFrom m limit text at))
+  holds : (p : ℕ) → Holds text 0 (recordsOf p (tokensFrom m limit text 0))
   unfolding recordsOf
-  holds-from =
-      by-tokens m limit text (λ at ts. (p : ℕ) → Holds text at (recordsOf p ts))
-      (λ at h e p. holds-eof at h p (nextToken m limit text at) (reads m limit text at h) e)
-      (λ at ts h c w p. holds-more at h p (nextToken m limit text at) (reads m limit text at h) _ c (w _))
+  holds =
+      by-each m limit text (λ at ts. (p : ℕ) → Holds text at (recordsOf p ts))
+      (λ p.
+      record {
+        tiles = claim.none;
+        gives-back = sym (drop-length text);
+        gaps = claim.none;
+        places = claim.none;
+        durations = claim.none;
+      })
+      (λ at t ts r w p. holds-each at t r p _ (w _)) 0 (omega arith)
 
-  reports-from : (at : ℕ) → at ≤ length text → Each (ReportPlace text) (reportsOf m limit text (tokensFrom m limit text at))
+  one-eof : (p : ℕ) → OneEof text (recordsOf p (tokensFrom m limit text 0))
+  unfolding recordsOf
+  one-eof =
+      by-tokens m limit text (λ at ts. (p : ℕ) → OneEof text (recordsOf p ts))
+      (λ at h e p. let r = reads m limit text at h in claim.last e (r .eof-start e) (r .eof-end e))
+      (λ at ts h c w p. claim.more (pos-of-ne-zero c) (reads m limit text at h .forward c) (w _)) 0 (omega arith)
+
+  reports-placed : Each (ReportPlace text) (reportsOf m limit text (tokensFrom m limit text 0))
   unfolding reportsOf
-  reports-from =
-      by-tokens m limit text (λ at ts. Each (ReportPlace text) (reportsOf m limit text ts))
-      (λ at h e. each-append (report-places at h 0 (nextToken m limit text at) (reads m limit text at h)) claim.none)
-      (λ at ts h c w. each-append (report-places at h 0 (nextToken m limit text at) (reads m limit text at h)) w)
+  reports-placed =
+      by-each m limit text (λ at ts. Each (ReportPlace text) (reportsOf m limit text ts)) claim.none
+      (λ at t ts r w. each-append (report-places at t r) w) 0 (omega arith)
 
   -- demand 3, over the definitions
-  pub demand-3 : Demand3 m limit text (recordRows (wholeLaid m limit text .records)) (wholeLaid m limit text .strings) (reportRows (wholeLaid m limit text .reports))
+  pub demand-3 : let l = wholeLaid m limit text in
+      Demand3 m limit text (recordRows (l .records)) (l .strings) (reportRows (l .reports))
   unfolding tokens
   demand-3 =
-      let w = holds-from 0 (omega arith) 0 in
+      let w = holds 0 in
       record {
         laid = wholeLaid m limit text;
         held-records = refl;
@@ -146,8 +137,8 @@ module _ (m : Reading) (limit : ℕ) (text : List ℕ) where
         tiles = w .tiles;
         gives-back = w .gives-back;
         gaps = w .gaps;
-        one-eof = w .one-eof;
+        one-eof = one-eof 0;
         places = w .places;
-        report-places = reports-from 0 (omega arith);
+        report-places = reports-placed;
         durations = w .durations;
       }

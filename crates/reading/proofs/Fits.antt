@@ -1,88 +1,47 @@
--- How much the tokens of a text can need: no more string bytes and reports than the text has bytes, and one token more. By induction on the
--- tokens. Assumes nothing.
+-- How much room the tokens of a text can need: for no more string bytes and reports than it has bytes, and one token more. For `read_text`, which
+-- need not measure then, and for callers that choose their buffers. By induction on the tokens. Assumes nothing.
 use mathlib.Core.Path.{_≡_, refl, ap}
 use mathlib.Core.Bool.{Bool, true, _&&_}
-use mathlib.Core.List.{List, [], _∷_, map}
+use mathlib.Core.List.{List, [], _∷_}
 use Prim.Native.Nat.{ℕ, _+_, _*_, _-_, _≤_}
 use native.Mathlib.Omega.{arith}
 use lib.Dec.{leb}
-use lib.ListN.{length, drop, length-append, length-map}
+use lib.ListN.{length, drop}
 use borrow.Author.Tests.{leb-true}
-use Rattle.base.proofs.Tests.{pick-le, and-left, and-right}
-use Rattle.token.specs.Kind.{isString}
+use Rattle.base.proofs.Tests.{and-left, and-right}
 use Rattle.token.specs.Layout.{recordWidth, reportWidth}
-use Rattle.token.specs.declared.kind.TokenKind.{TokenKind}
-use Rattle.token.proofs.KindNumbers.{IsEof}
-use Rattle.lexeme.specs.Reports.{reportOf}
 use Rattle.lexeme.specs.declared.Mode.{Mode}
 use Rattle.lexeme.specs.declared.Mode.the-variants.{Strict, Tolerant}
-use Rattle.lexer.specs.Reading.{modeOf, stringIn, notesIn}
-use Rattle.lexer.specs.Token.{nextToken, stringSize}
+use Rattle.lexer.specs.Reading.{modeOf}
 use Rattle.lexer.specs.declared.next.Token.{Token}
 use Rattle.lexer.specs.declared.reading.Reading.{Reading}
 use Rattle.lexer.proofs.StrictNotes.{strict-notes}
 use Rattle.reading.specs.Tokens.{tokens}
 use Rattle.reading.specs.Buffers.{stringsOf, reportsOf, wholeLaid}
 use Rattle.reading.specs.Passes.{Room, mostNotes, mostReports, sufficeFor}
-use Rattle.reading.proofs.Nexts.{reads}
-use Rattle.reading.proofs.From.{by-tokens}
-use Rattle.reading.proofs.Rows.{records-length}
-
-pub string-size-le : (k : TokenKind) (n : ℕ) → stringSize k n ≤ n
-unfolding stringSize
-string-size-le k n = pick-le (isString k) (omega arith) (omega arith)
+use Rattle.reading.proofs.NextToken.{Read, reads, string-few}
+use Rattle.reading.proofs.From.{by-tokens, by-each}
+use Rattle.reading.proofs.Rows.{records-length, strings-length, reports-length}
 
 module _ (m : Reading) (limit : ℕ) (text : List ℕ) where
-  -- the strings of a token and those after it
-  pub strings-more : (t : Token) (ts : List Token)
-      → length (stringsOf m text (t ∷ ts)) ≡ length (stringIn m (drop (t .start .offset) text)) + length (stringsOf m text ts)
-  unfolding stringsOf
-  strings-more t ts = length-append (stringIn m (drop (t .start .offset) text)) (stringsOf m text ts)
-
-  pub reports-more : (t : Token) (ts : List Token)
-      → length (reportsOf m limit text (t ∷ ts)) ≡ length (notesIn m limit (drop (t .start .offset) text)) + length (reportsOf m limit text ts)
-  unfolding reportsOf
-  reports-more t ts =
-      let ns = notesIn m limit (drop (t .start .offset) text) in
-      let f = reportOf text (t .start .offset) in
-      omega (arith, length-append (map f ns) (reportsOf m limit text ts), length-map ns f)
-
   record Few (at : ℕ) (ts : List Token) : Type 0 where
-    count : length ts ≤ length text - at + 1
     strings : length (stringsOf m text ts) ≤ length text - at
     reports : length (reportsOf m limit text ts) ≤ length text - at
 
-  none-left : Few (length text) []
+  few-none : Few (length text) []
   unfolding stringsOf reportsOf
-  none-left = record { count = omega arith; strings = omega arith; reports = omega arith }
+  few-none = search arith
 
-  few-eof : (at : ℕ) → at ≤ length text → IsEof (nextToken m limit text at .kind) → Few at (nextToken m limit text at ∷ [])
-  few-eof at h e =
-      let t = nextToken m limit text at in
-      let r = reads m limit text at h in
-      let w = none-left in
-      let z = string-size-le (t .kind) (t .size) in
+  few-each : (at : ℕ) (t : Token) (ts : List Token) → Read m limit text at t → Few (t .end .offset) ts → Few at (t ∷ ts)
+  few-each at t ts r w =
       record {
-        count = omega arith;
-        strings = omega (arith, strings-more t [], r .string, r .size-in, r .after, r .inside);
-        reports = omega (arith, reports-more t [], r .notes, r .reports-in, r .after, r .inside);
-      }
-
-  few-more : (at : ℕ) (ts : List Token) → at ≤ length text → (IsEof (nextToken m limit text at .kind) → ⊥)
-      → Few (nextToken m limit text at .end .offset) ts → Few at (nextToken m limit text at ∷ ts)
-  few-more at ts h c w =
-      let t = nextToken m limit text at in
-      let r = reads m limit text at h in
-      let z = string-size-le (t .kind) (t .size) in
-      record {
-        count = omega (arith, r .forward c, r .after, r .inside, w .count);
-        strings = omega (arith, strings-more t ts, r .string, r .size-in, r .after, r .inside, w .strings);
-        reports = omega (arith, reports-more t ts, r .notes, r .reports-in, r .after, r .inside, w .reports);
+        strings = omega (arith, strings-length m limit text t ts, string-few r);
+        reports = omega (arith, reports-length m limit text t ts);
       }
 
   few : Few 0 (tokens m limit text)
   unfolding tokens
-  few = by-tokens m limit text Few few-eof few-more 0 (omega arith)
+  few = by-each m limit text Few few-none few-each 0 (omega arith)
 
   -- "A string buffer as long as the text always suffices"
   pub strings-fit : length (stringsOf m text (tokens m limit text)) ≤ length text
@@ -93,14 +52,20 @@ module _ (m : Reading) (limit : ℕ) (text : List ℕ) where
   reports-fit = omega (arith, few .reports)
 
   pub tokens-fit : length (tokens m limit text) ≤ length text + 1
-  tokens-fit = omega (arith, few .count)
+  unfolding tokens
+  tokens-fit =
+      let w =
+      by-tokens m limit text (λ at ts. length ts ≤ length text - at + 1) (λ at h e. omega arith)
+      (λ at ts h c w. let r = reads m limit text at h in omega (arith, r .forward c)) 0 (omega arith) in
+      omega arith
 
 -- strict lexers make no report
 strict-reports : (m : Reading) → modeOf m ≡ Strict → (limit : ℕ) (text : List ℕ) (ts : List Token) → length (reportsOf m limit text ts) ≡ 0
 unfolding reportsOf
 strict-reports m e limit text [] = refl
 strict-reports m e limit text (t ∷ ts) =
-    omega (arith, reports-more m limit text t ts, ap length (strict-notes m e limit (drop (t .start .offset) text)), strict-reports m e limit text ts)
+    let none = ap length (strict-notes m e limit (drop (t .start .offset) text)) in
+    omega (arith, reports-length m limit text t ts, strict-reports m e limit text ts)
 
 most-reports : (m : Reading) (limit : ℕ) (text : List ℕ) → length (reportsOf m limit text (tokens m limit text)) ≤ mostReports m (length text)
 most-reports m limit text = go (modeOf m) refl
@@ -119,7 +84,9 @@ suffice-room m limit text nt ns nr e =
     let c : Bool = leb (mostReports m (length text) * reportWidth) nr in
     let f = and-left (a && b) c e in
     record {
-      for-tokens = omega (arith, records-length 0 (tokens m limit text), tokens-fit m limit text, leb-true ((length text + 1) * recordWidth) nt (and-left a b f));
+      for-tokens =
+          let i = leb-true ((length text + 1) * recordWidth) nt (and-left a b f) in
+          omega (arith, records-length 0 (tokens m limit text), tokens-fit m limit text);
       for-strings = omega (arith, strings-fit m limit text, leb-true (length text) ns (and-right a b f));
       for-reports = omega (arith, most-reports m limit text, leb-true (mostReports m (length text) * reportWidth) nr (and-right (a && b) c e));
     }

@@ -1,15 +1,16 @@
-pub mod Nexts
+pub mod NextToken
 pub mod From
-pub mod Laid
-pub mod Claims
-pub mod Rows
+mod Laid
+mod Claims
+mod Rows
 pub mod Fits
 pub mod Refusals
-pub mod Places
+mod Places
+mod Puts
 pub mod Turns
-pub mod Wholes
-pub mod Ones
-pub mod Chains
-pub mod Suffices
-pub mod Uses
-pub mod MiniatureHolds
+mod TextAnswers
+mod TokenAnswers
+mod Chains
+mod Suffices
+pub mod AnswerBounds
+mod MiniatureHolds

@@ -1,5 +1,5 @@
--- "A string buffer as long as the text always suffices", of the answers of both calls: no check but that of the string buffer answers
--- `StringsShort`. By cases on the tests. Assumes nothing.
+-- `text-suffices` and `token-suffices`, results of their own: "A string buffer as long as the text always suffices", of the answers of both calls. By
+-- cases on the tests, of which only one answers `StringsShort`. Assumes nothing.
 use mathlib.Core.Path.{_≡_, ap, _∙_}
 use mathlib.Core.List.{List}
 use Prim.Native.Nat.{ℕ, _≤_}
@@ -20,8 +20,8 @@ use Rattle.reading.specs.declared.one.ReadToken.{ReadToken}
 use Rattle.reading.specs.declared.one.ReadToken.the-variants as one
 use Rattle.reading.specs.declared.text.ReadText.{ReadText}
 use Rattle.reading.specs.declared.text.ReadText.the-variants as text-is
-use Rattle.reading.proofs.Nexts.{reads}
-use Rattle.reading.proofs.Fits.{string-size-le, strings-fit}
+use Rattle.reading.proofs.NextToken.{reads, string-few}
+use Rattle.reading.proofs.Fits.{strings-fit}
 use Rattle.reading.proofs.Places.{place-is}
 use Rattle.reading.proofs.Refusals.{judge-case, judged-case, room-case}
 use Rattle.reading.proofs.Rows.{one-strings}
@@ -57,8 +57,7 @@ module _ (m : Reading) (limit : ℕ) (text : List ℕ) (nt ns nr : ℕ) (h : len
       (λ k e.
       let t : Token = nextToken m limit text (p .offset) in
       let r = reads m limit text (p .offset) (place-is text p f .inside) in
-      let s = ap length (one-strings m limit text t) in
-      absurd (omega (arith, s, r .string, string-size-le (t .kind) (t .size), r .size-in, r .inside)))
+      absurd (omega (arith, ap length (one-strings m limit text t), string-few r)))
       (λ _ e. cc) (λ _ e. cc))
       (λ _ e. cc))
 

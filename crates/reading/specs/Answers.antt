@@ -19,6 +19,11 @@ use Rattle.reading.specs.declared.one.ReadToken.the-variants as token-is
 use Rattle.reading.specs.declared.place.PlaceOf.{PlaceOf}
 use Rattle.reading.specs.declared.place.PlaceOf.the-variants as place-is
 
+-- Types of the code (src/text.rt, src/one.rt, src/place.rt). `ReadText`: `Counts tokens strings reports`, what was written, or `Refused refusal`.
+-- `ReadToken`: `One strings reports end`, what was written beside the one token and the place at its end, or `Refused refusal`. `PlaceOf`: `At
+-- place`, or `Refused refusal`.
+-- Types that other files explain: `Place` in token/specs/Place.antt; `Reading` in lexer/specs/Reading.antt; `Refusal` in Refusals.antt.
+
 -- ---- the whole reading; 3 does not arise
 
 -- "the counts of tokens, string bytes and reports" of what is laid

@@ -17,6 +17,9 @@ use Rattle.lexer.specs.declared.next.Token.{Token}
 use Rattle.lexer.specs.declared.reading.Reading.{Reading}
 use Rattle.reading.specs.Tokens.{tokens}
 
+-- Types that other files explain: `Record`, `Report` in token/specs/Layout.antt; `Token` in lexer/specs/Token.antt; `Reading` in
+-- lexer/specs/Reading.antt.
+
 -- the record of a token whose string, if it has one, starts at p of the string buffer: "A String's value lies in the string buffer, other values
 -- and precisions in the text"
 abbrev pub recordOf : ℕ → Token → Record

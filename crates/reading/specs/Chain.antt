@@ -20,6 +20,9 @@ use Rattle.reading.specs.Buffers.{recordRows, reportRows, Laid, wholeLai
 use Rattle.reading.specs.Calls.{ReadsToken}
 use Rattle.reading.specs.declared.one.ReadToken.the-variants.{One}
 
+-- Types that other files explain: `Verdict` in utf8/specs/Check.antt; `Record`, `Report` in token/specs/Layout.antt; `Place` in token/specs/Place.antt;
+-- `Reading` in lexer/specs/Reading.antt; `ReadToken` in Answers.antt.
+
 -- what a call lays of one token
 abbrev pub ofOne : Record → List ℕ → List Report → Laid
 ofOne r bytes reports = record { records = r ∷ []; strings = bytes; reports = reports }

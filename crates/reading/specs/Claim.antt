@@ -3,6 +3,7 @@ use mathlib.Core.Path.{_≡_}
 use mathlib.Core.Logic.{_⊎_}
 use mathlib.Core.List.{List, [], _∷_, _++_}
 use Prim.Native.Nat.{ℕ, _+_, _-_, _≤_, _<_}
+use Prim.Native.Char.{code}
 use lib.IntN.{ℤ}
 use lib.ListN.{length, take, drop, getD}
 use Rattle.go_duration.specs.Written.{SumOfParts}
@@ -13,6 +14,8 @@ use Rattle.token.specs.declared.layout.Report.{Report}
 use Rattle.lexer.specs.Reading.{stringIn}
 use Rattle.lexer.specs.declared.reading.Reading.{Reading}
 use Rattle.reading.specs.Buffers.{recordRows, reportRows, Laid, wholeLaid}
+
+-- Types that other files explain: `Record`, `Report` in token/specs/Layout.antt; `Reading` in lexer/specs/Reading.antt.
 
 -- "The bytes of a token or a gap are those of the text from its start to its end"
 abbrev pub bytesOf : List ℕ → ℕ → ℕ → List ℕ
@@ -30,7 +33,7 @@ pub data Tiles (text : List ℕ) : ℕ → List Record → Type 0 where
 
 -- a space, a tab or a carriage return
 abbrev pub Blank : ℕ → Type 0
-Blank b = (b ≡ 0x20) ⊎ ((b ≡ 0x09) ⊎ (b ≡ 0x0D))
+Blank b = (b ≡ code " ") ⊎ ((b ≡ code "\t") ⊎ (b ≡ code "\r"))
 
 -- gaps hold blanks alone
 pub data Gaps (text : List ℕ) : ℕ → List Record → Type 0 where

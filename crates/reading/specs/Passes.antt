@@ -1,4 +1,4 @@
--- The contracts inside the calls: the two passes of a reading, and what a token lays into each buffer.
+-- Helper definitions, for proofs and inner contracts alone: the two passes of a reading, and what a token lays into each buffer.
 use mathlib.Core.Path.{_≡_}
 use mathlib.Core.Bool.{Bool, _&&_}
 use mathlib.Core.List.{List}
@@ -7,9 +7,9 @@ use lib.Dec.{leb}
 use lib.IntN.{ℤ}
 use lib.ListN.{length, drop}
 use lib.Seq.{sets}
-use Rattle.token.specs.Layout.{recordWidth, reportWidth, recordNumbers, RecordFits}
-use Rattle.token.specs.Place.{Walkable}
-use Rattle.lexeme.specs.Reports.{notesNumbers}
+use Rattle.token.specs.Layout.{recordWidth, reportWidth, recordNumbers}
+use Rattle.token.specs.Helpers.{RecordFits, Walkable}
+use Rattle.lexeme.specs.Helpers.{notesNumbers}
 use Rattle.lexeme.specs.declared.Mode.{Mode}
 use Rattle.lexeme.specs.declared.Mode.the-variants.{Strict, Tolerant}
 use Rattle.lexer.specs.Reading.{modeOf, lexemeIn, stringIn, notesIn}
@@ -17,10 +17,12 @@ use Rattle.lexer.specs.Token.{stringSize}
 use Rattle.lexer.specs.declared.next.Token.{Token}
 use Rattle.lexer.specs.declared.reading.Reading.{Reading}
 use Rattle.reading.specs.Buffers.{recordOf, recordRows, reportRows, Laid}
-use Rattle.reading.specs.declared.text.Counts.{Counts}
+use Rattle.reading.specs.declared.text.TextCounts.{TextCounts}
 
--- what the first pass counts of what is laid: "the counts of tokens, string bytes and reports"
-pub record Measured (l : Laid) (r : Counts) : Type 0 where
+-- Types that other files explain: `Mode` in lexeme/specs/Lexeme.antt; `Token` in lexer/specs/Token.antt; `Reading` in lexer/specs/Reading.antt.
+
+-- what the first pass counts, in the code's `TextCounts`, of what is laid: "the counts of tokens, string bytes and reports"
+pub record Measured (l : Laid) (r : TextCounts) : Type 0 where
   pub of-tokens : r .tokens ≡ length (l .records)
   pub of-strings : r .strings ≡ length (l .strings)
   pub of-reports : r .reports ≡ length (l .reports)
@@ -32,7 +34,7 @@ pub record Room (l : Laid) (nt ns nr : ℕ) : Type 0 where
   pub for-reports : length (l .reports) * reportWidth ≤ nr
 
 -- what the second pass stores, from each buffer's start
-pub record Written (l : Laid) (T : List ℤ) (S : List ℕ) (R T′ : List ℤ) (S′ : List ℕ) (R′ : List ℤ) : Type 0 where
+pub record Stored (l : Laid) (T : List ℤ) (S : List ℕ) (R T′ : List ℤ) (S′ : List ℕ) (R′ : List ℤ) : Type 0 where
   pub records : T′ ≡ sets T 0 (recordRows (l .records))
   pub strings : S′ ≡ sets S 0 (l .strings)
   pub reports : R′ ≡ sets R 0 (reportRows (l .reports))
@@ -63,7 +65,8 @@ pub record TokenRoom (m : Reading) (limit : ℕ) (text : List ℕ) (t : Token) (
   pub of-notes : NotesRoom m limit text t nr k
 
 -- what it lays into the buffers
-pub record TokenPut (m : Reading) (limit : ℕ) (text : List ℕ) (t : Token) (i s k : ℕ) (T : List ℤ) (S : List ℕ) (R T′ : List ℤ) (S′ : List ℕ) (R′ : List ℤ) : Type 0 where
+pub record TokenPut (m : Reading) (limit : ℕ) (text : List ℕ) (t : Token) (i s k : ℕ)
+    (T : List ℤ) (S : List ℕ) (R T′ : List ℤ) (S′ : List ℕ) (R′ : List ℤ) : Type 0 where
   pub of-record : T′ ≡ sets T i (recordNumbers (recordOf s t))
   pub of-string : S′ ≡ sets S s (stringIn m (drop (t .start .offset) text))
   pub of-notes : R′ ≡ sets R k (notesNumbers text (t .start .offset) (notesIn m limit (drop (t .start .offset) text)))

@@ -16,6 +16,10 @@ use Rattle.reading.specs.declared.refusal.Refusal.the-variants.{TooLong,
 use Rattle.reading.specs.declared.judge.Judged.{Judged}
 use Rattle.reading.specs.declared.judge.Judged.the-variants.{Fit, Unfit}
 
+-- Types of the code (src/refusal.rt, src/judge.rt). `Refusal`: `TooLong`, `NotUtf8 offset`, `NoPlace`, `TokensShort`, `StringsShort`, `ReportsShort`,
+-- numbered below. `Judged`, what the first two checks answer: `Fit`, or `Unfit refusal`.
+-- Types that other files explain: `Verdict` in utf8/specs/Check.antt.
+
 -- document 01's number of each
 abbrev pub refusalNumber : Refusal → ℕ
 refusalNumber TooLong = 1

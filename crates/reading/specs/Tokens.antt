@@ -9,6 +9,8 @@ use Rattle.lexer.specs.Token.{nextToken}
 use Rattle.lexer.specs.declared.next.Token.{Token}
 use Rattle.lexer.specs.declared.reading.Reading.{Reading}
 
+-- Types that other files explain: `Token` in lexer/specs/Token.antt; `Reading` in lexer/specs/Reading.antt.
+
 -- a token, and those after it unless it ends them
 unfoldable pub andThen : (Token → Bool) → Token → List Token → List Token
 andThen ends t ts = t ∷ pick (ends t) [] ts

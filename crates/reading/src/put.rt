@@ -5,7 +5,7 @@ ghost use lib.Seq.{sets};
 ghost use Rattle.base.specs.Choice.{pick};
 ghost use Rattle.token.specs.Kind.{kindNumber, isString};
 ghost use Rattle.token.specs.Layout.{recordNumbers};
-ghost use Rattle.lexeme.specs.Reports.{notesNumbers};
+ghost use Rattle.lexeme.specs.Helpers.{notesNumbers};
 ghost use Rattle.lexer.specs.Reading.{stringIn, notesIn};
 ghost use Rattle.reading.specs.Buffers.{recordOf};
 ghost use Rattle.reading.specs.Passes.{RecordRoom, StringRoom, NotesRoom, TokenRoom, TokenPut};
@@ -18,7 +18,7 @@ use token::layout::Record;
 use token::place::Place;
 
 // The number of a token's kind.
-pub fn kind_number(t: Token) -> usize
+fn kind_number(t: Token) -> usize
     ensures { λ r. ⌜ r ≡ kindNumber (t .kind) ⌝ }
 {
     let kind = t.kind;

@@ -7,7 +7,7 @@ ghost use Rattle.utf8.specs.Grammar.{Octets};
 ghost use Rattle.reading.specs.Answers.{readTextNumber};
 ghost use Rattle.reading.specs.Buffers.{wholeLaid};
 ghost use Rattle.reading.specs.Calls.{ReadsText};
-ghost use Rattle.reading.specs.Passes.{Measured, Room, Written, mostReports, sufficeFor};
+ghost use Rattle.reading.specs.Passes.{Measured, Room, Stored, mostReports, sufficeFor};
 use crate::judge::Judged;
 use crate::judge::judge;
 use crate::put::put_token;
@@ -49,14 +49,14 @@ impl ReadText {
 }
 
 // How many tokens, string bytes and reports a text has.
-pub struct Counts {
+pub struct TextCounts {
     pub tokens: usize,
     pub strings: usize,
     pub reports: usize,
 }
 
 // The first pass: it counts, and needs no places.
-fn measure(text: &[u8], mode: Reading, limit: usize) -> Counts
+fn measure(text: &[u8], mode: Reading, limit: usize) -> TextCounts
     requires { ⌜ (length (now text) ≤ maxMessageSize) × Octets (now text) ⌝ }
     ensures { λ r. ⌜ Measured (wholeLaid mode limit (now (text .entry))) r ⌝ }
 {
@@ -70,7 +70,7 @@ fn measure(text: &[u8], mode: Reading, limit: usize) -> Counts
         let kind = x.kind;
         tokens += 1;
         if kind.is_eof() {
-            return Counts {
+            return TextCounts {
                 tokens,
                 strings,
                 reports,
@@ -90,9 +90,9 @@ fn write(
     tokens: &mut [i64],
     strings: &mut [u8],
     reports: &mut [i64],
-) -> Counts
+) -> TextCounts
     requires { ⌜ (length (now text) ≤ maxMessageSize) × Room (wholeLaid mode limit (now text)) (length (now tokens)) (length (now strings)) (length (now reports)) × Octets (now text) ⌝ }
-    ensures { λ r. ⌜ Measured (wholeLaid mode limit (now (text .entry))) r × Written (wholeLaid mode limit (now (text .entry))) (now (tokens .entry)) (now (strings .entry)) (now (reports .entry)) (now (tokens .exit)) (now (strings .exit)) (now (reports .exit)) ⌝ }
+    ensures { λ r. ⌜ Measured (wholeLaid mode limit (now (text .entry))) r × Stored (wholeLaid mode limit (now (text .entry))) (now (tokens .entry)) (now (strings .entry)) (now (reports .entry)) (now (tokens .exit)) (now (strings .exit)) (now (reports .exit)) ⌝ }
 {
     let mut place = Place::first();
     let mut n = 0;
@@ -106,7 +106,7 @@ fn write(
         put_token(text, t, mode, limit, tokens, i, strings, m, reports, j);
         n += 1;
         if kind.is_eof() {
-            return Counts {
+            return TextCounts {
                 tokens: n,
                 strings: m,
                 reports: k,

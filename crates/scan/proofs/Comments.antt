@@ -1,4 +1,5 @@
--- Comments are within the text and end between characters; their reports stand at their start. Assumes nothing.
+-- For the crate above, `lexer`: comments are within the text and end between characters; their reports stand at their start. By cases, closed or
+-- open. Assumes nothing.
 use mathlib.Core.Path.{_≡_, refl}
 use mathlib.Core.Bool.{Bool, true, false, _&&_}
 use mathlib.Core.List.{List, List·Memᴰ, List·Memᴰ·not-nil, List·Memᴰ·eq-of-singleton}
@@ -18,10 +19,10 @@ use Rattle.token.specs.declared.kind.TokenKind.the-variants as K
 use Rattle.lexeme.specs.Lexeme.{Note}
 use Rattle.lexeme.specs.declared.Mode.{Mode}
 use Rattle.lexeme.specs.declared.Mode.the-variants.{Strict, Tolerant}
-use Rattle.utf8.specs.Grammar.{Boundary}
+use Rattle.utf8.specs.Onward.{Boundary}
 use Rattle.utf8.proofs.Boundaries.{ascii-boundary, end-boundary, char-end-ge, char-end-le, char-end-boundary}
 use Rattle.scan.specs.Run.{inRun}
-use Rattle.scan.specs.Comment.{lexLineComment, openEnd, bodyEnd, openComment, lexBlockComment, openNotes, blockNotes}
+use Rattle.scan.specs.Comment.{lexLineComment, openEnd, bodyEnd, openComment, lexBlockComment, openCommentNotes, blockNotes}
 use Rattle.scan.specs.declared.run.Run.the-variants as run
 use Rattle.scan.proofs.Runs.{body-boundary, run-boundary}
 use Rattle.scan.proofs.Scanned.{Plain, plain, Scanned, Ends, extent-scanned, whole-scanned, illegal-scanned}
@@ -98,6 +99,6 @@ module _ (m : Mode) (s : List ℕ) where
   unfolding blockNotes
   block-notes-start n = pick-case (λ l. List·Memᴰ n l → n .offset ≡ 0) (ltb (bodyEnd s) (length s)) (λ e i. absurd (List·Memᴰ·not-nil i)) (λ e. go m)
     where
-      go : (m : Mode) → List·Memᴰ n (openNotes m) → n .offset ≡ 0
+      go : (m : Mode) → List·Memᴰ n (openCommentNotes m) → n .offset ≡ 0
       go Strict i = absurd (List·Memᴰ·not-nil i)
       go Tolerant i = rw (List·Memᴰ·eq-of-singleton i)

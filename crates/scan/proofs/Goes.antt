@@ -1,4 +1,5 @@
--- Steps over a text: how far one goes, that it goes from one boundary to another, and that it stays on the line. Each part of a number is such a step. Assumes nothing.
+-- For `lex_number` and what it calls: each part of a number is a step that ends in the text and between characters, and stays on its line. By cases
+-- on the tests. Assumes nothing.
 use mathlib.Core.Path.{_≡_, refl}
 use mathlib.Core.Bool.{Bool, true, false, _&&_, _||_}
 use mathlib.Core.List.{List}
@@ -7,14 +8,15 @@ use native.Mathlib.Omega.{arith}
 use borrow.Author.Tests.{ltb-true, ne-eqb}
 use lib.Dec.{eqb}
 use lib.ListN.{length}
+use Rattle.base.specs.Choice.{pick}
 use Rattle.base.specs.Bytes.{byte}
 use Rattle.base.specs.Classes.{isDigit, isSpace}
 use Rattle.base.specs.Runs.{reach, past}
 use Rattle.base.proofs.Reaches.{reach-ge, reach-le}
 use Rattle.base.proofs.Walks.{past-ge, past-le}
 use Rattle.base.proofs.Tests.{and-left, pick-case, in-text}
-use Rattle.token.specs.Place.{Flat}
-use Rattle.utf8.specs.Grammar.{Boundary}
+use Rattle.token.specs.Helpers.{Flat}
+use Rattle.utf8.specs.Onward.{Boundary}
 use Rattle.utf8.proofs.Boundaries.{ascii-boundary}
 use Rattle.scan.specs.Run.{endsTimestamp, inRun, unitPiece}
 use Rattle.scan.specs.Number.{pastPoint, pastSign, pastExponent, pastFraction, valueEnd}
@@ -72,37 +74,35 @@ module _ (s : List ℕ) where
   pub goes-over : (k : ℕ) → 10 < k → k < 0x80 → (i : ℕ) → eqb (byte s i) k ≡ true → Goes s i (i + 1)
   goes-over k z l = goes-byte (λ a. eqb a k) (ne-eqb 0 k (λ e. omega arith)) (ne-eqb 10 k (λ e. omega arith)) (equal-high k l)
 
+  -- a step that is made or not
+  goes-if : {i e : ℕ} (b : Bool) → (b ≡ true → Goes s i e) → Goes s i (pick b e i)
+  goes-if {i} b f = pick-case (Goes s i) b f (λ _. goes-none i)
+
   pub goes-point : (i : ℕ) → Goes s i (pastPoint s i)
   unfolding pastPoint
-  goes-point i =
-      pick-case (Goes s i) (eqb (byte s i) 46)
-      (λ e. goes-then (goes-over 46 (omega arith) (omega arith) i e) (goes-digits (i + 1)))
-      (λ e. goes-none i)
+  goes-point i = goes-if (eqb (byte s i) 46) (λ e. goes-then (goes-over 46 (omega arith) (omega arith) i e) (goes-digits (i + 1)))
 
   pub goes-fraction : (i : ℕ) → Goes s i (pastFraction s i)
   unfolding pastFraction
   goes-fraction i =
-      pick-case (Goes s i) (eqb (byte s i) 46 && isDigit (byte s (i + 1)))
-      (λ e. goes-then (goes-over 46 (omega arith) (omega arith) i (and-left (eqb (byte s i) 46) (isDigit (byte s (i + 1))) e))
-      (goes-digits (i + 1)))
-      (λ e. goes-none i)
+      let x = eqb (byte s i) 46 in
+      let y = isDigit (byte s (i + 1)) in
+      goes-if (x && y) (λ e. goes-then (goes-over 46 (omega arith) (omega arith) i (and-left x y e)) (goes-digits (i + 1)))
 
-  pub goes-sign : (i : ℕ) → Goes s i (pastSign s i)
+  goes-sign : (i : ℕ) → Goes s i (pastSign s i)
   unfolding pastSign
   goes-sign i =
-      pick-case (Goes s i) (eqb (byte s i) 43 || eqb (byte s i) 45)
+      goes-if (eqb (byte s i) 43 || eqb (byte s i) 45)
       (λ e. goes-byte (λ a. eqb a 43 || eqb a 45) refl refl (either-high 43 45 (omega arith) (omega arith)) i e)
-      (λ e. goes-none i)
 
-  pub goes-exponent : (i : ℕ) → Goes s i (pastExponent s i)
+  goes-exponent : (i : ℕ) → Goes s i (pastExponent s i)
   unfolding pastExponent
   goes-exponent i =
-      pick-case (Goes s i) (eqb (byte s i) 101 || eqb (byte s i) 69)
+      goes-if (eqb (byte s i) 101 || eqb (byte s i) 69)
       (λ e. goes-then (goes-byte (λ a. eqb a 101 || eqb a 69) refl refl (either-high 101 69 (omega arith) (omega arith)) i e)
       (goes-then (goes-sign (i + 1)) (goes-digits (pastSign s (i + 1)))))
-      (λ e. goes-none i)
 
   -- the value of a number whose digits and fraction end at f
   pub goes-value : (f : ℕ) (float : Bool) → Goes s f (valueEnd s f float)
   unfolding valueEnd
-  goes-value f float = pick-case (Goes s f) float (λ q. goes-then (goes-point f) (goes-exponent (pastPoint s f))) (λ q. goes-none f)
+  goes-value f float = goes-if float (λ q. goes-then (goes-point f) (goes-exponent (pastPoint s f)))

@@ -1,12 +1,12 @@
-pub mod Flats
-pub mod Runs
-pub mod Stops
-pub mod Goes
+mod Flats
+mod Runs
+mod Stops
+mod Goes
 pub mod Scanned
 pub mod Comments
 pub mod Numbers
 pub mod Names
 pub mod Literals
 pub mod Others
-pub mod Examples
+mod Examples
 pub mod Silent

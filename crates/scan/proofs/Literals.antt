@@ -1,9 +1,10 @@
--- Bytes literals are within the text and end between characters; their reports stand at their start. By cases on where they stop. Assumes nothing.
+-- For the crate above, `lexer`: bytes literals are within the text and end between characters; their reports stand at their start. By cases on
+-- where they stop. Assumes nothing.
 use mathlib.Core.Path.{_≡_, refl}
 use mathlib.Core.List.{List, List·Memᴰ, List·Memᴰ·not-nil, List·Memᴰ·eq-of-singleton}
 use Prim.Native.Nat.{ℕ, _+_, _≤_, _<_, zero-le}
 use native.Mathlib.Omega.{arith}
-use borrow.Author.Tests.{eqb-true, lt-ltb}
+use borrow.Author.Tests.{eqb-true}
 use lib.Dec.{eqb}
 use lib.ListN.{length, drop}
 use Rattle.base.specs.Choice.{pick}
@@ -15,18 +16,18 @@ use Rattle.token.specs.declared.kind.TokenKind.the-variants as K
 use Rattle.lexeme.specs.Lexeme.{Note}
 use Rattle.lexeme.specs.declared.Mode.{Mode}
 use Rattle.lexeme.specs.declared.Mode.the-variants.{Strict, Tolerant}
-use Rattle.utf8.specs.Grammar.{Boundary}
+use Rattle.utf8.specs.Onward.{Boundary}
 use Rattle.utf8.proofs.Boundaries.{ascii-boundary, boundary-at, end-boundary, char-end-ge, char-end-le, char-end-boundary}
-use Rattle.scan.specs.Bytes.{bytesStop, bytesValue, openBytes, bytesBy, lexBytes, notesBy, bytesNotes}
+use Rattle.scan.specs.Bytes.{bytesStop, bytesValue, openBytesLiteral, bytesBy, lexBytes, stopNotes, bytesNotes}
 use Rattle.scan.specs.declared.bytes.Stop.the-variants as stop
 use Rattle.scan.specs.declared.bytes.Stop.{Stop}
-use Rattle.scan.proofs.Runs.{no-tail}
+use Rattle.utf8.proofs.Concatenations.{ascii-no-tail}
 use Rattle.scan.proofs.Stops.{Stands, stands}
 use Rattle.scan.proofs.Scanned.{plain, Scanned, Ends, extent-scanned, illegal-scanned}
 
 -- the place of an ASCII byte behind the start
 at-ascii : (s : List ℕ) (i b : ℕ) → b < 0x80 → i < length s → byte s i ≡ b → Boundary s 0 → Boundary s i
-at-ascii s i b l h e = boundary-at s i (omega arith) (λ q. rw e (no-tail b (lt-ltb b 0x80 l))) 0 zero-le
+at-ascii s i b l h e = boundary-at s i (omega arith) (λ q. rw e (ascii-no-tail b l)) 0 zero-le
 
 module _ (s : List ℕ) where
   value-scanned : (len n reports : ℕ) → n + 2 ≤ len → reports ≤ 1 → Ends s len → Scanned s (bytesValue len n reports)
@@ -36,7 +37,7 @@ module _ (s : List ℕ) where
       (pick-case (λ v. v + n ≤ len) (eqb n 0) (λ q. omega (arith, eqb-true n 0 q)) (λ q. omega arith))
       (omega arith)
 
-  open-scanned : (m : Mode) (n : ℕ) → Ends s (n + 2) → Scanned s (openBytes m n)
+  open-scanned : (m : Mode) (n : ℕ) → Ends s (n + 2) → Scanned s (openBytesLiteral m n)
   open-scanned Strict n e = illegal-scanned s (n + 2) e reasons.openBytes 0 (omega arith) (omega arith)
   open-scanned Tolerant n e = value-scanned (n + 2) n 1 (omega arith) (omega arith) e
 
@@ -77,7 +78,7 @@ module _ (m : Mode) (limit : ℕ) (s : List ℕ) where
   unfolding bytesNotes lexBytes
   bytes-notes-size = go m (bytesStop limit 0 (drop 2 s))
     where
-      go : (m : Mode) (e : Stop) → length (notesBy m e) ≡ bytesBy m s e .reports
+      go : (m : Mode) (e : Stop) → length (stopNotes m e) ≡ bytesBy m s e .reports
       go Strict (stop.Over n) = refl
       go Strict (stop.Closed n) = refl
       go Strict (stop.Newline n) = refl
@@ -91,7 +92,7 @@ module _ (m : Mode) (limit : ℕ) (s : List ℕ) where
   unfolding bytesNotes
   bytes-notes-start n = go m (bytesStop limit 0 (drop 2 s))
     where
-      go : (m : Mode) (e : Stop) → List·Memᴰ n (notesBy m e) → n .offset ≡ 0
+      go : (m : Mode) (e : Stop) → List·Memᴰ n (stopNotes m e) → n .offset ≡ 0
       go Strict e i = absurd (List·Memᴰ·not-nil i)
       go Tolerant (stop.Over k) i = absurd (List·Memᴰ·not-nil i)
       go Tolerant (stop.Closed k) i = absurd (List·Memᴰ·not-nil i)

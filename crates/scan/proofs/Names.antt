@@ -1,4 +1,5 @@
--- Names and directives are within the text, end between characters and stay on their line. Assumes nothing.
+-- For the crate above, `lexer`: names and directives are within the text, end between characters and stay on their line. By their runs.
+-- Assumes nothing.
 use mathlib.Core.Path.{_≡_, refl}
 use mathlib.Core.Bool.{true, false, _||_}
 use mathlib.Core.List.{List}
@@ -12,7 +13,7 @@ use Rattle.base.specs.Runs.{reach}
 use Rattle.base.proofs.Reaches.{reach-ge, reach-le, reach-one}
 use Rattle.base.proofs.Tests.{pick-case, in-text}
 use Rattle.token.specs.Kind.{kindNumber}
-use Rattle.token.specs.Place.{Flat}
+use Rattle.token.specs.Helpers.{Flat}
 use Rattle.token.specs.Reason as reasons
 use Rattle.token.specs.declared.kind.TokenKind.the-variants as K
 use Rattle.utf8.proofs.Boundaries.{ascii-boundary}

@@ -1,5 +1,5 @@
--- Numbers, timestamps and durations are within the text, end between characters and stay on their line; a Duration's run is one that `parse`
--- accepts. Assumes nothing.
+-- For the crate above, `lexer`: numbers, timestamps and durations are within the text, end between characters and stay on their line; a
+-- Duration's run is one that `parse` accepts. By the steps of Goes.antt and cases on the tests. Assumes nothing.
 use mathlib.Core.Path.{_≡_, refl, ap, _∙_}
 use mathlib.Core.Bool.{Bool, true, false, not, _&&_, _||_}
 use mathlib.Core.List.{List, [], _∷_}
@@ -17,7 +17,7 @@ use Rattle.base.proofs.Reaches.{reach-ge, reach-one}
 use Rattle.base.proofs.Walks.{past-ge}
 use Rattle.base.proofs.Tests.{and-left, and-right, or-case, pick-case, true-false, in-text, no-digit}
 use Rattle.token.specs.Kind.{kindNumber}
-use Rattle.token.specs.Place.{Flat}
+use Rattle.token.specs.Helpers.{Flat}
 use Rattle.token.specs.Reason as reasons
 use Rattle.token.specs.declared.kind.TokenKind.the-variants as K
 use Rattle.token.specs.declared.kind.TokenKind.{TokenKind}
@@ -28,13 +28,14 @@ use Rattle.go_duration.specs.declared.parse.Parsed.the-variants as parsed
 use Rattle.go_duration.specs.declared.parse.Parsed.{Parsed}
 use Rattle.go_duration.proofs.Durations.{sent-digit, sent-minus}
 use Rattle.scan.specs.Run.{inRun, unitPiece}
-use Rattle.scan.specs.Number.{lexPrecision, pastFraction, atDurationUnit, durationBy, lexDuration, goesOnFloat, numberKind, valueEnd, lexTail}
-use Rattle.scan.specs.Number.{lexTimestamp, lexDigits, atInf, isSign, lexNumber}
+use Rattle.scan.specs.Number.{lexPrecision, pastFraction, atDurationUnit, durationBy, lexDuration, goesOnFloat, numberKind, valueEnd}
+use Rattle.scan.specs.Number.{lexTail, lexTimestamp, lexDigits, atInf, isSign, lexNumber}
 use Rattle.scan.specs.declared.run.Run.the-variants as run
 use Rattle.scan.proofs.Flats.{flat-none}
 use Rattle.scan.proofs.Runs.{oneByte, micro, micro-in, one-turn, micro-turn}
-use Rattle.scan.proofs.Goes.{Goes, goes-none, goes-then, goes-digits, goes-stamp, goes-units, goes-byte, goes-over, either-high, goes-fraction, goes-value}
-use Rattle.scan.proofs.Scanned.{Plain, plain, Scanned, OnLine, Ends, whole-scanned, illegal-scanned}
+use Rattle.scan.proofs.Goes.{Goes, goes-none, goes-then, goes-digits, goes-stamp, goes-units, goes-byte, goes-over, either-high}
+use Rattle.scan.proofs.Goes.{goes-fraction, goes-value}
+use Rattle.scan.proofs.Scanned.{Plain, plain, Scanned, OnLine, Ends, plain-scanned, whole-scanned, illegal-scanned}
 
 float : Plain K.Float
 unfolding kindNumber
@@ -100,14 +101,7 @@ module _ (s : List ℕ) where
   ends-at e h g = record { some = h; inside = g .le zero-le; between = g .between }
 
   precise-scanned : (k : TokenKind) (e n : ℕ) → Plain k → e + 1 ≤ n → Ends s n → Scanned s (precise k e n)
-  precise-scanned k e n p h g =
-      record {
-        within = precise-within s k e n (omega arith) (g .inside);
-        not-eof = p .not-eof;
-        not-string = p .not-string;
-        boundary = g .between;
-        duration = λ q. absurd (p .not-duration q);
-      }
+  precise-scanned k e n p h g = plain-scanned p (precise-within s k e n (omega arith) (g .inside)) (g .between)
 
   -- a number that ends at e, before its precision
   precision-on-line : (k : TokenKind) (e : ℕ) → Plain k → 0 < e → Goes s 0 e → OnLine s (lexPrecision k s e)

@@ -1,4 +1,4 @@
--- An unexpected character is within the text and ends between characters. Assumes nothing.
+-- For the crate above, `lexer`: an unexpected character is within the text and ends between characters. Assumes nothing.
 use mathlib.Core.List.{List}
 use Prim.Native.Nat.{ℕ, _<_}
 use native.Mathlib.Omega.{arith}

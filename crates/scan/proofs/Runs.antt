@@ -1,4 +1,5 @@
--- The runs of this crate: the pieces of a duration, one turn of the loop at a time; and that each run ends between characters. Assumes nothing.
+-- For `past_units` and the laws of all tokens: the pieces of a duration, one turn at a time; and that each run of this crate ends between
+-- characters, since its tests are of ASCII bytes. Assumes nothing.
 use mathlib.Core.Path.{_≡_, refl, _∙_}
 use mathlib.Core.Bool.{Bool, true, false, not, _&&_, _||_}
 use mathlib.Core.List.{List, _∷_}
@@ -14,12 +15,14 @@ use Rattle.base.specs.Choice.{pick}
 use Rattle.base.specs.Bytes.{byte}
 use Rattle.base.specs.Classes.{isDigit, isLowerAlpha, isIdentStart, isIdentPart, isSpace}
 use Rattle.base.specs.Runs.{reach, past}
-use Rattle.base.proofs.Tests.{and-left, and-right, true-false, under, over, in-text}
+use Rattle.base.proofs.Tests.{and-left, and-right, true-false, over, in-text}
 use Rattle.base.proofs.Walks.{past-step, past-stop, past-end}
-use Rattle.token.specs.Place.{Flat}
-use Rattle.utf8.specs.Grammar.{charSize, Boundary}
+use Rattle.token.specs.Helpers.{Flat}
+use Rattle.utf8.specs.Grammar.{charSize}
+use Rattle.utf8.specs.Onward.{Boundary}
 use Rattle.utf8.specs.Check.{isTail}
 use Rattle.utf8.proofs.Boundaries.{boundary-le, next-boundary, ascii-boundary, reach-boundary, stop-boundary}
+use Rattle.utf8.proofs.Concatenations.{ascii-no-tail}
 use Rattle.scan.specs.Run.{endsTimestamp, inRun, unitPiece}
 use Rattle.scan.specs.declared.run.Run.the-variants as run
 use Rattle.scan.specs.declared.run.Run.{Run}
@@ -101,14 +104,9 @@ piece-high b a h = simp (digit-high a h, over 97 122 a (omega arith), equal-high
 
 -- ---- ends between characters
 
--- an ASCII byte is no tail
-pub no-tail : (a : ℕ) → ltb a 0x80 ≡ true → isTail a ≡ false
-unfolding isTail
-no-tail a e = under 0x80 0xBF a (ltb-true a 0x80 e)
-
 -- a byte that ends a run which takes all but some ASCII bytes
 clean : (p : ℕ → ℕ → Bool) → ((b a : ℕ) → 0x80 ≤ a → p a b ≡ false) → (a b : ℕ) → not (p a b) ≡ false → isTail a ≡ false
-clean p high a b e = no-tail a (low (λ x. p x b) (high b) a (not-false (p a b) e))
+clean p high a b e = ascii-no-tail a (ltb-true a 0x80 (low (λ x. p x b) (high b) a (not-false (p a b) e)))
 
 -- the body of a comment, from anywhere behind a boundary
 pub body-boundary : (s : List ℕ) (i j : ℕ) → i ≤ j → j ≤ length s → Boundary s i → Boundary s (reach (inRun run.Body) s j)
@@ -138,7 +136,8 @@ micro-size s i e =
     rw (micro-cut s i (micro-in s i e) a (rw (add-one i) at b))
 
 -- what each piece of a duration keeps, all of them keep; n bounds the bytes that are left
-module _ (s : List ℕ) (P : ℕ → Type 0) (one : (i : ℕ) → i < length s → oneByte s i ≡ true → P i → P (i + 1)) (two : (i : ℕ) → micro s i ≡ true → P i → P (i + 2)) where
+module _ (s : List ℕ) (P : ℕ → Type 0) (one : (i : ℕ) → i < length s → oneByte s i ≡ true → P i → P (i + 1))
+    (two : (i : ℕ) → micro s i ≡ true → P i → P (i + 2)) where
   pub units-from : (n i : ℕ) → length s ≤ i + n → P i → P (past unitPiece s i)
   units-from zero i h b = rw (past-end unitPiece s i (omega arith)) b
   units-from (suc n) i h b =
@@ -159,8 +158,8 @@ units-boundary s i b = units-from s (Boundary s) one (λ k r. next-boundary s k 
   where
     one : (k : ℕ) → k < length s → oneByte s k ≡ true → Boundary s k → Boundary s (k + 1)
     one k l q =
-        ascii-boundary s k l
-        (ltb-true (byte s k) 0x80 (low (λ a. (isDigit a || isLowerAlpha a) || (eqb a 46 && isDigit (byte s (k + 1)))) (piece-high (byte s (k + 1))) (byte s k) q))
+        let test : ℕ → Bool = λ a. (isDigit a || isLowerAlpha a) || (eqb a 46 && isDigit (byte s (k + 1))) in
+        ascii-boundary s k l (ltb-true (byte s k) 0x80 (low test (piece-high (byte s (k + 1))) (byte s k) q))
 
 -- and they stay on the line
 pub units-flat : (s : List ℕ) (i : ℕ) → Flat s i → Flat s (past unitPiece s i)

@@ -1,5 +1,5 @@
--- What every lexer of this crate answers, where a byte is left: a token within the text, no Eof and no String, whose end is between characters
--- where its start is, and a Duration only for a run that `parse` accepts. Assumes nothing.
+-- What the crate above, `lexer`, is told of each token where a byte is left: it is within the text, no Eof and no String, it ends between characters
+-- where it starts so, and a Duration's run is one that `parse` accepts. By the makers of lexemes. Assumes nothing.
 use mathlib.Core.Path.{_≡_, refl, ap, sym, _∙_}
 use mathlib.Core.Bool.{Bool, true, false, _||_}
 use mathlib.Core.List.{List, [], _∷_}
@@ -10,15 +10,15 @@ use lib.ListN.{length, take}
 use Rattle.base.specs.Bytes.{byte, sameBytes}
 use Rattle.base.specs.Classes.{isDigit}
 use Rattle.base.proofs.Tests.{true-false}
-use Rattle.token.specs.Kind.{kindNumber, isEof, isString, isDuration}
-use Rattle.token.specs.Place.{Flat}
+use Rattle.token.specs.Kind.{kindNumber, isEof, isString}
+use Rattle.token.specs.Helpers.{isDuration, Flat}
 use Rattle.token.specs.Reason as reasons
 use Rattle.token.specs.declared.kind.TokenKind.the-variants as K
 use Rattle.token.specs.declared.kind.TokenKind.{TokenKind}
 use Rattle.lexeme.specs.Lexeme.{extent, whole, illegal}
 use Rattle.lexeme.specs.declared.Lexeme.{Lexeme}
 use Rattle.lexeme.proofs.Within.{Within, extent-within, illegal-within}
-use Rattle.utf8.specs.Grammar.{Boundary}
+use Rattle.utf8.specs.Onward.{Boundary}
 use Rattle.go_duration.specs.Parse.{unsigned, parseOf}
 use Rattle.go_duration.specs.declared.parse.Parsed.the-variants as parsed
 
@@ -63,17 +63,15 @@ pub record Ends (s : List ℕ) (n : ℕ) : Type 0 where
   pub inside : n ≤ length s
   pub between : Boundary s 0 → Boundary s n
 
+-- a token of a plain kind
+pub plain-scanned : {s : List ℕ} {r : Lexeme} → Plain (r .kind) → Within s r → (Boundary s 0 → Boundary s (r .len)) → Scanned s r
+plain-scanned p w b =
+    record { within = w; not-eof = p .not-eof; not-string = p .not-string; boundary = b; duration = λ q. absurd (p .not-duration q) }
+
 -- the makers' answers
 module _ (s : List ℕ) (n : ℕ) (e : Ends s n) where
   pub extent-scanned : (k : TokenKind) (v size reports : ℕ) → Plain k → v + size ≤ n → reports ≤ n → Scanned s (extent k n v size reports)
-  extent-scanned k v size reports p i j =
-      record {
-        within = extent-within s k n (e .some) (e .inside) v size reports i j;
-        not-eof = p .not-eof;
-        not-string = p .not-string;
-        boundary = e .between;
-        duration = λ q. absurd (p .not-duration q);
-      }
+  extent-scanned k v size reports p i j = plain-scanned p (extent-within s k n (e .some) (e .inside) v size reports i j) (e .between)
 
   pub whole-scanned : (k : TokenKind) → Plain k → Scanned s (whole k n)
   whole-scanned k p = extent-scanned k 0 n 0 p (omega arith) (omega arith)
@@ -81,11 +79,4 @@ module _ (s : List ℕ) (n : ℕ) (e : Ends s n) where
   pub illegal-scanned : (reason detail : ℕ) → reason ≤ reasons.lastIllegal → detail < 0x200000 → Scanned s (illegal reason detail n)
   unfolding kindNumber
   illegal-scanned reason detail i j =
-      let p = plain K.Illegal refl in
-      record {
-        within = illegal-within s reason detail n 0 (e .some) (e .inside) (omega arith) i (λ _. j);
-        not-eof = p .not-eof;
-        not-string = p .not-string;
-        boundary = e .between;
-        duration = λ q. absurd (p .not-duration q);
-      }
+      plain-scanned (plain K.Illegal refl) (illegal-within s reason detail n 0 (e .some) (e .inside) (omega arith) i (λ _. j)) (e .between)

@@ -1,4 +1,4 @@
--- Names, directives, numbers and unexpected characters make no report. By cases on the tests of each definition. Assumes nothing.
+-- For the crate above, `lexer`: names, directives, numbers and unexpected characters make no report. By cases on the tests. Assumes nothing.
 use mathlib.Core.Path.{_≡_, refl}
 use mathlib.Core.Bool.{not, _&&_, _||_}
 use mathlib.Core.List.{List}

@@ -1,4 +1,5 @@
--- Where a bytes literal stops, one turn of its loop at a time. Assumes nothing.
+-- For `bytes_stop` and `lex_bytes`: where a bytes literal stops, one turn of the loop at a time, and what stands there. By induction on the turns
+-- that are left. Assumes nothing.
 use mathlib.Core.Path.{_≡_, refl}
 use mathlib.Core.Bool.{Bool, true, false}
 use mathlib.Core.List.{List}

@@ -15,6 +15,8 @@ use Rattle.lexeme.specs.declared.Mode.the-variants.{Strict, Tolerant}
 use Rattle.scan.specs.Run.{inRun}
 use Rattle.scan.specs.declared.run.Run.the-variants as run
 
+-- Types that other files explain: `TokenKind` in token/specs/Kind.antt; `Lexeme`, `Mode` in lexeme/specs/Lexeme.antt; `Run` in Run.antt.
+
 -- `lex_line_comment`: `#` or `//` to the end of the line
 unfoldable pub lexLineComment : List ℕ → Lexeme
 lexLineComment s = whole K.Comment (reach (inRun run.Line) s 0)
@@ -37,10 +39,10 @@ unfoldable pub lexBlockComment : Mode → List ℕ → Lexeme
 lexBlockComment m s = pick (ltb (bodyEnd s) (length s)) (whole K.Comment (bodyEnd s + 2)) (openComment m s)
 
 -- the report of an open comment, at its start
-abbrev pub openNotes : Mode → List Note
-openNotes Strict = []
-openNotes Tolerant = noteAtStart reasons.openBlockComment ∷ []
+abbrev pub openCommentNotes : Mode → List Note
+openCommentNotes Strict = []
+openCommentNotes Tolerant = noteAtStart reasons.openBlockComment ∷ []
 
 -- the reports of the comment at the front of s
 unfoldable pub blockNotes : Mode → List ℕ → List Note
-blockNotes m s = pick (ltb (bodyEnd s) (length s)) [] (openNotes m)
+blockNotes m s = pick (ltb (bodyEnd s) (length s)) [] (openCommentNotes m)

@@ -4,3 +4,4 @@ pub mod Name
 pub mod Bytes
 pub mod Other
 pub mod Number
+pub mod Helpers

@@ -1,9 +1,10 @@
 -- Names and directives: `lex_ident` and `lex_directive`.
 use mathlib.Core.Bool.{_||_}
-use mathlib.Core.List.{List, [], _∷_}
+use mathlib.Core.List.{List}
 use Prim.Native.Nat.{ℕ, _-_}
 use lib.Dec.{eqb}
 use lib.ListN.{take, drop}
+use Rattle.base.specs.Characters.{ascii}
 use Rattle.base.specs.Choice.{pick}
 use Rattle.base.specs.Bytes.{sameBytes}
 use Rattle.base.specs.Runs.{reach}
@@ -15,25 +16,27 @@ use Rattle.lexeme.specs.declared.Lexeme.{Lexeme}
 use Rattle.scan.specs.Run.{inRun}
 use Rattle.scan.specs.declared.run.Run.the-variants as run
 
+-- Types that other files explain: `TokenKind` in token/specs/Kind.antt; `Lexeme` in lexeme/specs/Lexeme.antt; `Run` in Run.antt.
+
 -- `true`, `false`, `null`
 abbrev pub trueWord : List ℕ
-trueWord = 116 ∷ 114 ∷ 117 ∷ 101 ∷ []
+trueWord = ascii "true"
 
 abbrev pub falseWord : List ℕ
-falseWord = 102 ∷ 97 ∷ 108 ∷ 115 ∷ 101 ∷ []
+falseWord = ascii "false"
 
 abbrev pub nullWord : List ℕ
-nullWord = 110 ∷ 117 ∷ 108 ∷ 108 ∷ []
+nullWord = ascii "null"
 
 -- `type`, `dataset`, `proto`
 abbrev pub typeWord : List ℕ
-typeWord = 116 ∷ 121 ∷ 112 ∷ 101 ∷ []
+typeWord = ascii "type"
 
 abbrev pub datasetWord : List ℕ
-datasetWord = 100 ∷ 97 ∷ 116 ∷ 97 ∷ 115 ∷ 101 ∷ 116 ∷ []
+datasetWord = ascii "dataset"
 
 abbrev pub protoWord : List ℕ
-protoWord = 112 ∷ 114 ∷ 111 ∷ 116 ∷ 111 ∷ []
+protoWord = ascii "proto"
 
 -- what a name is
 unfoldable pub nameKind : List ℕ → TokenKind

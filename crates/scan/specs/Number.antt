@@ -2,6 +2,7 @@
 use mathlib.Core.Bool.{Bool, not, _&&_, _||_}
 use mathlib.Core.List.{List}
 use Prim.Native.Nat.{ℕ, _+_}
+use Prim.Native.Char.{code}
 use lib.Dec.{ltb, eqb}
 use lib.ListN.{take}
 use Rattle.base.specs.Choice.{pick}
@@ -19,26 +20,29 @@ use Rattle.lexeme.specs.declared.Lexeme.{Lexeme}
 use Rattle.scan.specs.Run.{inRun, unitPiece}
 use Rattle.scan.specs.declared.run.Run.the-variants as run
 
+-- Types that other files explain: `Parsed` in go_duration/specs/Parse.antt; `TokenKind` in token/specs/Kind.antt; `Lexeme` in lexeme/specs/Lexeme.antt;
+-- `Run` in Run.antt.
+
 -- `lex_precision`: a number that ends at e; its precision is `p` and one or more digits, or nothing
 unfoldable pub lexPrecision : TokenKind → List ℕ → ℕ → Lexeme
 lexPrecision k s e =
-    pick (eqb (byte s e) 112 && isDigit (byte s (e + 1))) (precise k e (reach (inRun run.Digits) s (e + 1))) (whole k e)
+    pick (eqb (byte s e) (code "p") && isDigit (byte s (e + 1))) (precise k e (reach (inRun run.Digits) s (e + 1))) (whole k e)
 
 -- past a point and digits or none
 unfoldable pub pastPoint : List ℕ → ℕ → ℕ
-pastPoint s i = pick (eqb (byte s i) 46) (reach (inRun run.Digits) s (i + 1)) i
+pastPoint s i = pick (eqb (byte s i) (code ".")) (reach (inRun run.Digits) s (i + 1)) i
 
 -- past a sign or nothing
 unfoldable pub pastSign : List ℕ → ℕ → ℕ
-pastSign s i = pick (eqb (byte s i) 43 || eqb (byte s i) 45) (i + 1) i
+pastSign s i = pick (eqb (byte s i) (code "+") || eqb (byte s i) (code "-")) (i + 1) i
 
 -- past `e` or `E`, a sign or none, and digits or none
 unfoldable pub pastExponent : List ℕ → ℕ → ℕ
-pastExponent s i = pick (eqb (byte s i) 101 || eqb (byte s i) 69) (reach (inRun run.Digits) s (pastSign s (i + 1))) i
+pastExponent s i = pick (eqb (byte s i) (code "e") || eqb (byte s i) (code "E")) (reach (inRun run.Digits) s (pastSign s (i + 1))) i
 
 -- past a point and at least one digit, or nothing
 unfoldable pub pastFraction : List ℕ → ℕ → ℕ
-pastFraction s i = pick (eqb (byte s i) 46 && isDigit (byte s (i + 1))) (reach (inRun run.Digits) s (i + 1)) i
+pastFraction s i = pick (eqb (byte s i) (code ".") && isDigit (byte s (i + 1))) (reach (inRun run.Digits) s (i + 1)) i
 
 -- `at_duration_unit`: the first byte of a unit, or U+00B5
 unfoldable pub atDurationUnit : ℕ → ℕ → Bool
@@ -55,7 +59,7 @@ lexDuration s f = durationBy (parseOf (take (past unitPiece s f) s)) (past unitP
 
 -- what goes on after the digits as a float
 abbrev pub goesOnFloat : ℕ → Bool
-goesOnFloat a = (eqb a 46 || eqb a 101) || eqb a 69
+goesOnFloat a = (eqb a (code ".") || eqb a (code "e")) || eqb a (code "E")
 
 -- the kind of a number: `lex_float` or an Int
 abbrev pub numberKind : Bool → TokenKind
@@ -79,19 +83,19 @@ lexTimestamp s n = whole K.Timestamp (reach (inRun run.Stamp) s n)
 unfoldable pub lexDigits : List ℕ → ℕ → Lexeme
 lexDigits s i =
     let n = reach (inRun run.Digits) s i in
-    pick ((eqb i 0 && eqb n 4) && eqb (byte s n) 45) (lexTimestamp s n) (lexTail s n (pastFraction s n))
+    pick ((eqb i 0 && eqb n 4) && eqb (byte s n) (code "-")) (lexTimestamp s n) (lexTail s n (pastFraction s n))
 
 -- `inf` after a sign, where no name byte follows
 unfoldable pub atInf : List ℕ → Bool
-atInf s = ((eqb (byte s 1) 105 && eqb (byte s 2) 110) && eqb (byte s 3) 102) && not (isIdentPart (byte s 4))
+atInf s = ((eqb (byte s 1) (code "i") && eqb (byte s 2) (code "n")) && eqb (byte s 3) (code "f")) && not (isIdentPart (byte s 4))
 
 -- a sign
 abbrev pub isSign : ℕ → Bool
-isSign a = eqb a 43 || eqb a 45
+isSign a = eqb a (code "+") || eqb a (code "-")
 
 -- `lex_number`: "16 `+` without `inf`; 17 `-` without digit or `inf`"
 unfoldable pub lexNumber : List ℕ → Lexeme
 lexNumber s =
     pick (isSign (byte s 0) && atInf s) (whole K.Float 4)
-    (pick (eqb (byte s 0) 43) (illegal reasons.plusWithoutInf 0 1)
-    (pick (eqb (byte s 0) 45 && not (isDigit (byte s 1))) (illegal reasons.minusWithoutDigit 0 1) (lexDigits s (pick (eqb (byte s 0) 45) 1 0))))
+    (pick (eqb (byte s 0) (code "+")) (illegal reasons.plusWithoutInf 0 1)
+    (pick (eqb (byte s 0) (code "-") && not (isDigit (byte s 1))) (illegal reasons.minusWithoutDigit 0 1) (lexDigits s (pick (eqb (byte s 0) (code "-")) 1 0))))

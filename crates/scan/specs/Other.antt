@@ -7,6 +7,8 @@ use Rattle.token.specs.Reason as reasons
 use Rattle.lexeme.specs.Lexeme.{illegal}
 use Rattle.lexeme.specs.declared.Lexeme.{Lexeme}
 
+-- Types that other files explain: `Lexeme` in lexeme/specs/Lexeme.antt.
+
 -- "1 unexpected character (detail: its code point)"
 unfoldable pub lexOther : List ℕ → Lexeme
 lexOther s = illegal reasons.unexpectedCharacter (decodeOf s .code) (charEnd s 1)

@@ -2,7 +2,8 @@
 ghost use mathlib.Core.Path.{_≡_};
 ghost use Prim.Native.Nat.{_<_};
 ghost use lib.ListN.{drop};
-ghost use Rattle.scan.specs.Bytes.{bytesStop, bytesValue, openBytes, lexBytes, stopReason};
+ghost use Rattle.scan.specs.Bytes.{bytesStop, bytesValue, openBytesLiteral, lexBytes};
+ghost use Rattle.scan.specs.Helpers.{stopReason};
 use lexeme::Lexeme;
 use lexeme::Mode;
 use token::kind::TokenKind;
@@ -58,7 +59,7 @@ fn bytes_value(len: usize, n: usize, reports: usize) -> Lexeme
 // A literal without its closing quote, of `n` bytes after its opening quote.
 fn open_bytes(mode: Mode, n: usize) -> Lexeme
     requires { ⌜ n < 0x8000000000000000 ⌝ }
-    ensures { λ r. ⌜ r ≡ openBytes mode n ⌝ }
+    ensures { λ r. ⌜ r ≡ openBytesLiteral mode n ⌝ }
 {
     match mode {
         Mode::Strict => lexeme::illegal(reason::OPEN_BYTES, 0, n + 2),

@@ -1,5 +1,5 @@
--- A literal gives no more bytes and no more reports than it takes bytes of text, it ends within the text, and a tolerant one never at a bad
--- escape. By steps. Assumes nothing.
+-- For `lexString`'s laws and the last copy of `put_string`: a literal gives no more bytes and reports than it takes bytes of text, and ends
+-- within it; a tolerant one never at a bad escape. By steps of `decode`. Assumes nothing.
 use mathlib.Core.Path.{_≡_, refl}
 use mathlib.Core.List.{List, [], _∷_}
 use Prim.Native.Nat.{ℕ, _+_, _-_, _≤_, _<_}
@@ -9,13 +9,13 @@ use lib.ListN.{length, take, drop, length-append, length-drop}
 use Rattle.token.specs.Reason as reasons
 use Rattle.lexeme.specs.declared.Mode.{Mode}
 use Rattle.lexeme.specs.declared.Mode.the-variants.{Strict, Tolerant}
-use Rattle.strings.specs.Decode.{Decoded, letterDetail, stepNotes, prepend, finish}
-use Rattle.strings.specs.Literal.{literalOf, endReason, endDetail, endOf}
+use Rattle.strings.specs.Decode.{Decoded, letterDetail, stepNotes, prepend, stopped}
+use Rattle.strings.specs.Literal.{literalOf, endReason, endDetail, literalEnd}
 use Rattle.strings.specs.declared.literal.End.{End}
 use Rattle.strings.specs.declared.literal.End.the-variants as end
-use Rattle.strings.proofs.Fine.{Taken}
-use Rattle.strings.proofs.Decodes.{from, Went, Named, Ended, by-steps}
-use Rattle.strings.proofs.Turns.{length-four, notes-le}
+use Rattle.strings.proofs.PieceFacts.{Taken}
+use Rattle.strings.proofs.Decodes.{from, Went, Named, Ended, length-four, by-steps}
+use Rattle.strings.proofs.Turns.{notes-le}
 
 -- what the text from i on stands for
 pub record Bounds (s : List ℕ) (i : ℕ) (d : Decoded) : Type 0 where
@@ -36,7 +36,7 @@ reason-le Tolerant l (end.Bad reason letter) n = absurd n
 pub bounds : (m : Mode) (s : List ℕ) (i : ℕ) → i ≤ length s → Bounds s i (from m s i)
 bounds m s = by-steps m s (Bounds s) stops goes
   where
-    stops : (i : ℕ) (e : End) (p : ℕ) → i ≤ length s → i ≤ p → Ended m (drop i s) e (p - i) → Bounds s i (finish e p)
+    stops : (i : ℕ) (e : End) (p : ℕ) → i ≤ length s → i ≤ p → Ended m (drop i s) e (p - i) → Bounds s i (stopped e p)
     stops i e p h g u =
         record { bytes-in = omega arith; notes-in = omega arith; upto = omega (arith, u .upto, length-drop i s); reason = reason-le m (drop i s) e (u .named) }
 
@@ -61,27 +61,24 @@ literal-bounds m s h = bounds m s 1 h
 -- an ending that is no bad escape
 pub record Sound (s : List ℕ) (e : End) : Type 0 where
   pub detail : endDetail e ≡ 0
-  pub stays : (x : ℕ) → endOf s e x ≡ x
+  pub stays : (x : ℕ) → literalEnd s e x ≡ x
 
-named-sound : (s l : List ℕ) (e : End) → Named Tolerant l e → Sound s e
-unfolding endDetail endOf
-named-sound s l end.Closed n = record { detail = refl; stays = λ x. refl }
-named-sound s l end.AtNewline n = record { detail = refl; stays = λ x. refl }
-named-sound s l end.Cut n = record { detail = refl; stays = λ x. refl }
-named-sound s l end.Open n = record { detail = refl; stays = λ x. refl }
-named-sound s l (end.Bad reason letter) n = absurd n
+other-sound : (s : List ℕ) (e : End) → ((reason letter : ℕ) → e ≡ end.Bad reason letter → Sound s e) → Sound s e
+unfolding endDetail literalEnd
+other-sound s end.Closed f = record { detail = refl; stays = λ x. refl }
+other-sound s end.AtNewline f = record { detail = refl; stays = λ x. refl }
+other-sound s end.Cut f = record { detail = refl; stays = λ x. refl }
+other-sound s end.Open f = record { detail = refl; stays = λ x. refl }
+other-sound s (end.Bad reason letter) f = f reason letter refl
 
--- a strict ending without a reason is none either
+-- a strict ending without a reason is none
 pub zero-sound : (s : List ℕ) (e : End) → endReason e ≡ reasons.none → Sound s e
-unfolding endReason endDetail endOf letterDetail
-zero-sound s end.Closed z = record { detail = refl; stays = λ x. refl }
-zero-sound s end.AtNewline z = record { detail = refl; stays = λ x. refl }
-zero-sound s end.Cut z = record { detail = refl; stays = λ x. refl }
-zero-sound s end.Open z = record { detail = refl; stays = λ x. refl }
-zero-sound s (end.Bad reason letter) z = rw z (record { detail = refl; stays = λ x. refl })
+unfolding endReason endDetail literalEnd letterDetail
+zero-sound s e z = other-sound s e (λ r l q. let n : r ≡ reasons.none = rw q at z in rw (q, n) (record { detail = refl; stays = λ x. refl }))
 
+-- a tolerant one is none
 pub tolerant-sound : (s : List ℕ) → 0 < length s → Sound s (literalOf Tolerant s .ending)
 unfolding literalOf
 tolerant-sound s h =
-    by-steps Tolerant s (λ (i : ℕ) (d : Decoded). Sound s (d .ending)) (λ i e p k g u. named-sound s (drop i s) e (u .named))
+    by-steps Tolerant s (λ (i : ℕ) (d : Decoded). Sound s (d .ending)) (λ i e p k g u. other-sound s e (λ r l q. absurd (rw q at (u .named))))
     (λ i n a b c d used reason r k w v. v) 1 h

@@ -1,5 +1,5 @@
--- Laws of `decode`, at an offset of the token: what one step makes of it, a claim from the claims of its steps, bytes that stand for themselves,
--- and escapes of one letter. By induction on the bytes that are left. Assumes nothing.
+-- Laws of `decode` at an offset of the token, for all that reads a literal: what a step, a run of bytes that stand for themselves and escapes
+-- of one letter give, and a claim from the claims of its steps. By induction on the bytes that are left. Assumes nothing.
 use mathlib.Core.Path.{_≡_, refl, sym, ap, _∙_, subst}
 use mathlib.Core.Bool.{Bool, true, false, not, _&&_}
 use mathlib.Core.List.{List, [], _∷_}
@@ -9,19 +9,19 @@ use native.Mathlib.Omega.{arith}
 use borrow.Author.Tests.{not-true, eqb-true}
 use lib.Dec.{eqb, lit≤, eqb·suc-zero}
 use lib.ListN.{length, drop, take, length-drop}
-use lib.Seq.{drop-drop, length-take-le, getD-take, getD-drop}
+use lib.Seq.{drop-drop, length-take-le}
 use Rattle.base.specs.Choice.{pick}
 use Rattle.base.specs.Bytes.{byte}
-use Rattle.base.specs.Runs.{reach}
-use Rattle.base.specs.Blocks.{allPass}
-use Rattle.base.proofs.Reaches.{reach-le, reach-ge, reach-all}
-use Rattle.base.proofs.Tests.{and-left, and-right, true-false}
+use Rattle.base.specs.Runs.{run, reach}
+use Rattle.base.proofs.Reaches.{reach-le, reach-ge}
+use Rattle.base.proofs.Tests.{and-left, and-right, pick-case, true-false}
 use Rattle.token.specs.Reason as reasons
+use Rattle.lexeme.specs.Lexeme.{Note}
 use Rattle.lexeme.specs.declared.Mode.{Mode}
 use Rattle.lexeme.specs.declared.Mode.the-variants.{Strict, Tolerant}
 use Rattle.strings.specs.Piece.{simpleOf, escapePiece, pieceOf}
 use Rattle.strings.specs.Plain.{isOrdinary, inOrdinary, simpleAt, simpleBytes}
-use Rattle.strings.specs.Decode.{Decoded, stepOf, stepNotes, prepend, finish, follow, decode}
+use Rattle.strings.specs.Decode.{Decoded, stepOf, stepNotes, prepend, stopped, follow, decode}
 use Rattle.strings.specs.Literal.{endReason}
 use Rattle.strings.specs.declared.piece.Piece.{Piece}
 use Rattle.strings.specs.declared.piece.Piece.the-variants as piece
@@ -29,7 +29,9 @@ use Rattle.strings.specs.declared.literal.End.{End}
 use Rattle.strings.specs.declared.literal.End.the-variants as end
 use Rattle.strings.specs.declared.literal.Step.{Step}
 use Rattle.strings.specs.declared.literal.Step.the-variants.{Go, Stop}
-use Rattle.strings.proofs.Fine.{Fine, Taken, Front, fine}
+use Rattle.strings.proofs.PieceFacts.{PieceFacts, Taken, Front, piece-facts}
+
+-- ---- what a step takes, and how it ends a literal
 
 -- a step that goes on, at the front of l
 pub record Went (l : List ℕ) (n b used reason : ℕ) : Type 0 where
@@ -64,7 +66,7 @@ pub record Ended (m : Mode) (l : List ℕ) (e : End) (k : ℕ) : Type 0 where
   pub clean : (endReason e ≡ reasons.unknownEscape → ⊥) → Clean l k
 
 -- what a step at the offset `at` is, l being left
-abbrev pub Apt : Mode → ℕ → List ℕ → Step → Type 0
+abbrev Apt : Mode → ℕ → List ℕ → Step → Type 0
 Apt m at l (Go n a b c d used reason) = Went l n b used reason
 Apt m at l (Stop e p) = (at ≤ p) × Ended m l e (p - at)
 
@@ -80,7 +82,7 @@ module _ (m : Mode) (at : ℕ) (l : List ℕ) (e : End) (named : Named m l e) (f
       let k : at - at ≡ 0 = omega arith in
       (omega arith, rw k (record { upto = omega arith; named = named; clean = λ _. before (f .ascii) }))
 
-apt : (m : Mode) (at : ℕ) (l : List ℕ) (q : Piece) → Fine l q → Apt m at l (stepOf m at q)
+apt : (m : Mode) (at : ℕ) (l : List ℕ) (q : Piece) → PieceFacts l q → Apt m at l (stepOf m at q)
 unfolding stepOf endReason
 apt m at l (piece.Bytes n a b c d used) f = record { taken = f .bytes; small = lit≤ tt; named = λ z. absurd (z refl) }
 apt Tolerant at l (piece.Bad reason letter used) f = record { taken = f .bytes; small = f .high; named = λ _. f .named }
@@ -117,14 +119,25 @@ decode-at m at (x ∷ l) = refl
 abbrev pub from : Mode → List ℕ → ℕ → Decoded
 from m s i = decode m i 0 (drop i s)
 
-module _ (m : Mode) (s : List ℕ) (i : ℕ) (q : Step) (is : q ≡ stepOf m i (pieceOf (drop i s))) where
-  pub fit : Apt m i (drop i s) q
-  fit = rw is (apt m i (drop i s) (pieceOf (drop i s)) (fine (drop i s)))
+-- the text from i to j stands for n bytes, and makes reports
+pub record Gives (m : Mode) (s : List ℕ) (i : ℕ) (bytes : List ℕ) (notes : List Note) (n j : ℕ) : Type 0 where
+  pub count : length bytes ≡ n
+  pub inside : j ≤ length s
+  pub is : from m s i ≡ prepend bytes notes (from m s j)
 
-  pub from-stop : (e : End) (p : ℕ) → q ≡ Stop e p → from m s i ≡ finish e p
-  from-stop e p h = decode-at m i (drop i s) ∙ rw (sym is ∙ h)
+pub length-four : (n a b c d : ℕ) → n ≤ 4 → length (take n (a ∷ b ∷ c ∷ d ∷ [])) ≡ n
+length-four n a b c d h = length-take-le n (a ∷ b ∷ c ∷ d ∷ []) h
 
-  module _ (n a b c d used reason : ℕ) (h : q ≡ Go n a b c d used reason) where
+-- ---- a step
+
+module _ (m : Mode) (s : List ℕ) (i : ℕ) {q : Step} (is : q ≡ stepOf m i (pieceOf (drop i s))) where
+  fit : Apt m i (drop i s) q
+  fit = rw is (apt m i (drop i s) (pieceOf (drop i s)) (piece-facts (drop i s)))
+
+  pub from-stop : {e : End} {p : ℕ} → q ≡ Stop e p → from m s i ≡ stopped e p
+  from-stop h = decode-at m i (drop i s) ∙ rw (sym is ∙ h)
+
+  module _ {n a b c d used reason : ℕ} (h : q ≡ Go n a b c d used reason) where
     pub went : Went (drop i s) n b used reason
     went = subst (λ (x : Step). Apt m i (drop i s) x) h fit
 
@@ -139,28 +152,44 @@ module _ (m : Mode) (s : List ℕ) (i : ℕ) (q : Step) (is : q ≡ stepOf m i (
         decode-skip m (suc i) (used - 1) (drop 1 l) k ∙ rw (drop-drop (used - 1) 1 l, x, y, drop-drop used i s) in
         decode-at m i l ∙ rw (sym is ∙ h, r)
 
--- a claim of each step makes the claim of the whole
+    pub step-four : n ≤ 4
+    step-four = went .taken .four
+
+    module _ (k : i ≤ length s) where
+      pub step-gives : Gives m s i (take n (a ∷ b ∷ c ∷ d ∷ [])) (stepNotes reason b i) n (i + used)
+      step-gives =
+          let t : Taken n used (length (drop i s)) = went .taken in
+          record { count = length-four n a b c d step-four; inside = omega (arith, length-drop i s); is = from-go }
+
+      -- the measure of a loop that was at j
+      pub step-less : (j : ℕ) → j ≤ i → length s - (i + used) < length s - j
+      step-less j g = let t : Taken n used (length (drop i s)) = went .taken in omega (arith, step-gives .inside)
+
+-- ---- a claim of each step makes the claim of the whole
+
 module _ (m : Mode) (s : List ℕ) (P : ℕ → Decoded → Type 0)
-    (stops : (i : ℕ) (e : End) (p : ℕ) → i ≤ length s → i ≤ p → Ended m (drop i s) e (p - i) → P i (finish e p))
+    (stops : (i : ℕ) (e : End) (p : ℕ) → i ≤ length s → i ≤ p → Ended m (drop i s) e (p - i) → P i (stopped e p))
     (goes : (i n a b c d used reason : ℕ) (r : Decoded) → i ≤ length s → Went (drop i s) n b used reason → P (i + used) r
     → P i (prepend (take n (a ∷ b ∷ c ∷ d ∷ [])) (stepNotes reason b i) r)) where
   step : (n i : ℕ) → length s ≤ i + n → i ≤ length s → ((j : ℕ) → length s + 1 ≤ j + n → j ≤ length s → P j (from m s j))
       → (q : Step) → q ≡ stepOf m i (pieceOf (drop i s)) → Apt m i (drop i s) q → P i (from m s i)
-  step n i h k ih (Stop e p) is f = rw (from-stop m s i (Stop e p) is e p refl) (stops i e p k (f .0) (f .1))
+  step n i h k ih (Stop e p) is f = rw (from-stop m s i is refl) (stops i e p k (f .0) (f .1))
   step n i h k ih (Go w a b c d used reason) is f =
       let t : Taken w used (length (drop i s)) = f .taken in
-      rw (from-go m s i (Go w a b c d used reason) is w a b c d used reason refl)
+      rw (from-go m s i is refl)
       (goes i w a b c d used reason (from m s (i + used)) k f (ih (i + used) (omega arith) (omega (arith, length-drop i s))))
 
   along : (n i : ℕ) → length s ≤ i + n → i ≤ length s → P i (from m s i)
-  along zero i h k = step zero i h k (λ j x y. absurd (omega arith)) (stepOf m i (pieceOf (drop i s))) refl (fit m s i (stepOf m i (pieceOf (drop i s))) refl)
+  along zero i h k = step zero i h k (λ j x y. absurd (omega arith)) (stepOf m i (pieceOf (drop i s))) refl (fit m s i refl)
   along (suc n) i h k =
-      step (suc n) i h k (λ j x y. along n j (omega arith) y) (stepOf m i (pieceOf (drop i s))) refl (fit m s i (stepOf m i (pieceOf (drop i s))) refl)
+      step (suc n) i h k (λ j x y. along n j (omega arith) y) (stepOf m i (pieceOf (drop i s))) refl (fit m s i refl)
 
   pub by-steps : (i : ℕ) → i ≤ length s → P i (from m s i)
   by-steps i h = along (length s) i (omega arith) h
 
--- a byte that stands for itself
+-- ---- bytes that stand for themselves
+
+-- one of them
 ordinary-piece : (x : ℕ) (l : List ℕ) → isOrdinary x ≡ true → pieceOf (x ∷ l) ≡ piece.Bytes 1 x 0 0 0 1
 unfolding isOrdinary pieceOf
 ordinary-piece x l e =
@@ -170,41 +199,61 @@ ordinary-piece x l e =
     let u = and-left (p && q) r e in
     simp (not-true (eqb x 0x22) (and-left p q u), not-true (eqb x 0x0A) (and-right p q u), not-true (eqb x 0x5C) (and-right (p && q) r e))
 
--- n of them
-decode-ordinary : (m : Mode) (n at : ℕ) (l : List ℕ) → n ≤ length l → allPass isOrdinary (take n l) ≡ true
-    → decode m at 0 l ≡ prepend (take n l) [] (decode m (at + n) 0 (drop n l))
-unfolding allPass decode stepOf stepNotes
-decode-ordinary m zero at l h e = rw (add-zero at)
-decode-ordinary m (suc n) at [] h e = absurd (omega arith)
-decode-ordinary m (suc n) at (x ∷ l) h e =
-    let a : Bool = isOrdinary x in
-    let k : suc at + n ≡ at + suc n = omega arith in
-    rw (ordinary-piece x l (and-left a (allPass isOrdinary (take n l)) e))
-    (ap (prepend (x ∷ []) [])
-    (decode-ordinary m n (suc at) l (omega arith) (and-right a (allPass isOrdinary (take n l)) e)
-    ∙ ap (λ (j : ℕ). prepend (take n l) [] (decode m j 0 (drop n l))) k))
+-- as many as there are
+decode-run : (m : Mode) (at : ℕ) (l : List ℕ)
+    → let n = run inOrdinary l in decode m at 0 l ≡ prepend (take n l) [] (decode m (at + n) 0 (drop n l))
+unfolding run decode stepOf stepNotes
+decode-run m at [] = rw add-zero
+decode-run m at (x ∷ l) = go (isOrdinary x) refl (decode-run m (suc at) l)
+  where
+    n : ℕ
+    n = run inOrdinary l
 
-pub from-ordinary : (m : Mode) (s : List ℕ) (i r : ℕ) → i ≤ r → r ≤ length s → allPass isOrdinary (take (r - i) (drop i s)) ≡ true
-    → from m s i ≡ prepend (take (r - i) (drop i s)) [] (from m s r)
-from-ordinary m s i r h l e =
-    let k : i + (r - i) ≡ r = omega arith in
-    decode-ordinary m (r - i) i (drop i s) (omega (arith, length-drop i s)) e ∙ rw (drop-drop (r - i) i s, k)
+    go : (b : Bool) → isOrdinary x ≡ b → decode m (suc at) 0 l ≡ prepend (take n l) [] (decode m (suc at + n) 0 (drop n l))
+        → let k = pick b (suc n) 0 in decode m at 0 (x ∷ l) ≡ prepend (take k (x ∷ l)) [] (decode m (at + k) 0 (drop k (x ∷ l)))
+    go true q ih =
+        let j : suc at + n ≡ at + suc n = omega arith in
+        rw (ordinary-piece x l q) (ap (prepend (x ∷ []) []) (ih ∙ rw j))
+    go false q ih = rw add-zero
 
--- a test that each byte passes
-pub all-pass : (t : ℕ → Bool) (l : List ℕ) → ((k : ℕ) → k < length l → t (byte l k) ≡ true) → allPass t l ≡ true
-unfolding allPass
-all-pass t [] f = refl
-all-pass t (x ∷ l) f = rw (f 0 (omega arith)) (all-pass t l (λ k h. f (suc k) (omega arith)))
+-- the run from i to e
+module _ (s : List ℕ) (i e : ℕ) (ee : e ≡ reach inOrdinary s i) where
+  pub run-ge : i ≤ e
+  run-ge = rw ee (reach-ge inOrdinary s i)
 
--- the run from i on gives its own bytes, and then what the text from its end on gives
-pub from-run : (m : Mode) (s : List ℕ) (i : ℕ) → i ≤ length s
-    → from m s i ≡ prepend (take (reach inOrdinary s i - i) (drop i s)) [] (from m s (reach inOrdinary s i))
-from-run m s i h =
-    let n : ℕ = reach inOrdinary s i - i in
-    let l : length (take n (drop i s)) ≡ n = length-take-le n (drop i s) (omega (arith, length-drop i s, reach-le inOrdinary s i h)) in
-    from-ordinary m s i (reach inOrdinary s i) (reach-ge inOrdinary s i) (reach-le inOrdinary s i h)
-    (all-pass isOrdinary (take n (drop i s))
-    (λ k q. rw (getD-take n (drop i s) k 0 (omega arith), getD-drop i s k 0) (reach-all inOrdinary s i (i + k) (omega arith) (omega (arith, reach-ge inOrdinary s i)))))
+  module _ (h : i ≤ length s) where
+    pub run-in : e ≤ length s
+    run-in = rw ee (reach-le inOrdinary s i h)
+
+    pub run-source : i + (e - i) ≤ length s
+    run-source = omega (arith, run-ge, run-in)
+
+    pub run-gives : (m : Mode) → Gives m s i (take (e - i) (drop i s)) [] (e - i) e
+    unfolding reach
+    run-gives m =
+        let n : ℕ = run inOrdinary (drop i s) in
+        let k : e - i ≡ n = omega arith in
+        record {
+          count = length-take-le (e - i) (drop i s) (omega (arith, length-drop i s, run-in));
+          inside = run-in;
+          is = rw (k, ee) (decode-run m i (drop i s) ∙ rw (drop-drop n i s));
+        }
+
+-- ---- escapes of one letter
+
+-- a claim of each escape makes the claim of all that follow each other at the front
+module _ (P : List ℕ → List ℕ → Type 0) (ends : (l : List ℕ) → P l [])
+    (more : (x y : ℕ) (l : List ℕ) → eqb (simpleAt x y) 0 ≡ false → P l (simpleBytes l) → P (x ∷ y ∷ l) (simpleAt x y ∷ simpleBytes l)) where
+  pub by-escapes : (l : List ℕ) → P l (simpleBytes l)
+  unfolding simpleBytes
+  by-escapes [] = ends []
+  by-escapes (x ∷ []) = ends (x ∷ [])
+  by-escapes (x ∷ y ∷ l) =
+      let rest = by-escapes l in
+      pick-case (P (x ∷ y ∷ l)) (eqb (simpleAt x y) 0) (λ _. ends (x ∷ y ∷ l)) (λ e. more x y l e rest)
+
+simple-le : (l : List ℕ) → 2 * length (simpleBytes l) ≤ length l
+simple-le = by-escapes (λ l v. 2 * length v ≤ length l) (λ l. omega arith) (λ x y l e ih. omega arith)
 
 -- an escape of one letter
 simple-piece : (x y : ℕ) (l : List ℕ) → eqb (simpleAt x y) 0 ≡ false → pieceOf (x ∷ y ∷ l) ≡ piece.Bytes 1 (simpleAt x y) 0 0 0 2
@@ -216,30 +265,21 @@ simple-piece x y l e = go (eqb x 0x5C) refl e
     go false q f = true-false true refl f
 
 -- as many as there are
-decode-simple : (m : Mode) (at : ℕ) (l : List ℕ)
-    → decode m at 0 l ≡ prepend (simpleBytes l) [] (decode m (at + 2 * length (simpleBytes l)) 0 (drop (2 * length (simpleBytes l)) l))
-unfolding simpleBytes decode stepOf stepNotes
-decode-simple m at [] = rw add-zero
-decode-simple m at (x ∷ []) = rw add-zero
-decode-simple m at (x ∷ y ∷ l) = go (eqb (simpleAt x y) 0) refl (decode-simple m (suc (suc at)) l)
-  where
-    v : ℕ
-    v = simpleAt x y
+decode-simple : (m : Mode) (l : List ℕ) (at : ℕ)
+    → let n = length (simpleBytes l) in decode m at 0 l ≡ prepend (simpleBytes l) [] (decode m (at + 2 * n) 0 (drop (2 * n) l))
+unfolding decode stepOf stepNotes
+decode-simple m =
+    by-escapes (λ l v. (at : ℕ) → decode m at 0 l ≡ prepend v [] (decode m (at + 2 * length v) 0 (drop (2 * length v) l)))
+    (λ l at. rw add-zero)
+    (λ x y l e ih at.
+    let n : ℕ = length (simpleBytes l) in
+    let k : 2 * suc n ≡ suc (suc (2 * n)) = omega arith in
+    let j : suc (suc at) + 2 * n ≡ at + suc (suc (2 * n)) = omega arith in
+    rw (simple-piece x y l e, k) (ap (prepend (simpleAt x y ∷ []) []) (ih (suc (suc at)) ∙ rw j)))
 
-    n : ℕ
-    n = length (simpleBytes l)
+module _ (s : List ℕ) (i n : ℕ) (h : i ≤ length s) (e : n ≡ length (simpleBytes (drop i s))) where
+  pub simple-in : i + 2 * n ≤ length s
+  simple-in = omega (arith, simple-le (drop i s), length-drop i s)
 
-    go : (b : Bool) → eqb (simpleAt x y) 0 ≡ b
-        → decode m (suc (suc at)) 0 l ≡ prepend (simpleBytes l) [] (decode m (suc (suc at) + 2 * n) 0 (drop (2 * n) l))
-        → decode m at 0 (x ∷ y ∷ l)
-        ≡ prepend (pick b [] (v ∷ simpleBytes l)) []
-        (decode m (at + 2 * length (pick b [] (v ∷ simpleBytes l))) 0 (drop (2 * length (pick b [] (v ∷ simpleBytes l))) (x ∷ y ∷ l)))
-    go true e ih = rw add-zero
-    go false e ih =
-        let k : 2 * suc n ≡ suc (suc (2 * n)) = omega arith in
-        let j : suc (suc at) + 2 * n ≡ at + suc (suc (2 * n)) = omega arith in
-        rw (simple-piece x y l e, k) (ap (prepend (v ∷ []) []) (ih ∙ rw j))
-
-pub from-simple : (m : Mode) (s : List ℕ) (i n : ℕ) → n ≡ length (simpleBytes (drop i s))
-    → from m s i ≡ prepend (simpleBytes (drop i s)) [] (from m s (i + 2 * n))
-from-simple m s i n e = decode-simple m i (drop i s) ∙ rw (← e, drop-drop (2 * n) i s)
+  pub simple-gives : (m : Mode) → Gives m s i (simpleBytes (drop i s)) [] n (i + 2 * n)
+  simple-gives m = record { count = sym e; inside = simple-in; is = decode-simple m (drop i s) i ∙ rw (← e, drop-drop (2 * n) i s) }

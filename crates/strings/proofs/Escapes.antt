@@ -1,5 +1,5 @@
--- What `encode_rune`, the escapes and `next_piece` return, and a turn of `code_escape`'s loop: each return is a row of its definition, and the
--- digits read so far with those that are left make the whole number. Assumes nothing.
+-- For `encode_rune`, the escapes and `next_piece`: each return is a row of its definition; and the digits that `code_escape` has read, with
+-- those that are left, make the whole number. By the tests. Assumes nothing.
 use mathlib.Core.Path.{_≡_, refl, sym, ap, _∙_}
 use mathlib.Core.Bool.{Bool, true, false, _&&_}
 use mathlib.Core.List.{List, [], _∷_}
@@ -7,94 +7,67 @@ use Prim.Native.Nat.{ℕ, suc, _+_, _-_, _*_, _^_, _≤_, _<_}
 use native.Mathlib.Nat.{pow-le-pow-right, pow-suc}
 use native.Mathlib.Numerals.{add-one}
 use native.Mathlib.Omega.{arith}
-use lib.Dec.{ltb, lit<}
-use lib.ListN.{length, take, drop, length-take, length-drop}
+use lib.Dec.{ltb, eqb, lit<, eqb·suc-suc}
+use lib.ListN.{length, drop, length-take, length-drop, List·getD-eq-default}
 use lib.Seq.{drop-cons, getD-drop, getD-take}
-use borrow.Author.Tests.{le-ltb, lt-ltb, ltb-true, ne-eqb, eq-eqb, leb-true}
+use borrow.Author.Tests.{le-ltb, lt-ltb, ltb-true, ltb-false, ne-eqb, eq-eqb, leb-true}
 use mir.Syntax.{w8, w32}
 use mir.Val.{Fits}
 use Rattle.base.specs.Choice.{pick}
 use Rattle.base.specs.Bytes.{byte, within}
-use Rattle.base.proofs.Tests.{and-left, and-right, within-low, within-high}
-use Rattle.utf8.specs.Character.{isScalar, encodeOf, octetsOf}
+use Rattle.base.proofs.Tests.{and-left, and-right}
+use Rattle.utf8.specs.Character.{isScalar, encodeOf}
+use Rattle.utf8.specs.Helpers.{octetsOf}
 use Rattle.utf8.specs.declared.character.Encoded.{Encoded}
 use Rattle.token.specs.Reason as reasons
 use Rattle.strings.specs.Piece.{hexOf, octOf, simpleOf, bytesPiece, hexPiece, octPiece, hexCount, hexValue, codePiece, escapePiece, pieceOf}
 use Rattle.strings.specs.declared.piece.Piece.{Piece}
 use Rattle.strings.specs.declared.piece.Piece.the-variants.{Bytes, Bad, Close, Newline, Cut, Open}
 
--- the bytes of a prefix are the list's
-prefix-byte : (n : ℕ) (l m : List ℕ) → take n l ≡ m → (k : ℕ) → k < length m → byte l k ≡ byte m k
-prefix-byte n l m e k h =
-    let q : length (take n l) ≡ length m = ap length e in
-    rw (← e) (sym (getD-take n l k 0 (omega (arith, length-take n l))))
-
--- `encode_rune`: o is what the code point's octets are
-module _ (used : ℕ) (e : Encoded) (o : List ℕ) (is : octetsOf e ≡ o) where
-  octet : (k : ℕ) → k < length o → byte (e .a ∷ e .b ∷ e .c ∷ e .d ∷ []) k ≡ byte o k
-  octet k h = prefix-byte (e .len) (e .a ∷ e .b ∷ e .c ∷ e .d ∷ []) o is k h
-
-octets-1 : (used : ℕ) (e : Encoded) (w : ℕ) → octetsOf e ≡ w ∷ [] → Bytes 1 (e .a) 0 0 0 used ≡ bytesPiece (w ∷ []) used
-octets-1 used e w is = let p : e .a ≡ w = octet used e (w ∷ []) is 0 (omega arith) in rw p
-
-octets-2 : (used : ℕ) (e : Encoded) (w x : ℕ) → octetsOf e ≡ w ∷ x ∷ [] → Bytes 2 (e .a) (e .b) 0 0 used ≡ bytesPiece (w ∷ x ∷ []) used
-octets-2 used e w x is =
-    let p : e .a ≡ w = octet used e (w ∷ x ∷ []) is 0 (omega arith) in
-    let q : e .b ≡ x = octet used e (w ∷ x ∷ []) is 1 (omega arith) in
-    rw (p, q)
-
-octets-3 : (used : ℕ) (e : Encoded) (w x y : ℕ) → octetsOf e ≡ w ∷ x ∷ y ∷ [] → Bytes 3 (e .a) (e .b) (e .c) 0 used ≡ bytesPiece (w ∷ x ∷ y ∷ []) used
-octets-3 used e w x y is =
-    let o : (k : ℕ) → k < 3 → byte (e .a ∷ e .b ∷ e .c ∷ e .d ∷ []) k ≡ byte (w ∷ x ∷ y ∷ []) k = octet used e (w ∷ x ∷ y ∷ []) is in
-    let p : e .a ≡ w = o 0 (omega arith) in
-    let q : e .b ≡ x = o 1 (omega arith) in
-    let r : e .c ≡ y = o 2 (omega arith) in
-    rw (p, q, r)
-
-octets-4 : (used : ℕ) (e : Encoded) (w x y z : ℕ) → octetsOf e ≡ w ∷ x ∷ y ∷ z ∷ []
-    → Bytes 4 (e .a) (e .b) (e .c) (e .d) used ≡ bytesPiece (w ∷ x ∷ y ∷ z ∷ []) used
-octets-4 used e w x y z is =
-    let o : (k : ℕ) → k < 4 → byte (e .a ∷ e .b ∷ e .c ∷ e .d ∷ []) k ≡ byte (w ∷ x ∷ y ∷ z ∷ []) k = octet used e (w ∷ x ∷ y ∷ z ∷ []) is in
-    let p : e .a ≡ w = o 0 (omega arith) in
-    let q : e .b ≡ x = o 1 (omega arith) in
-    let r : e .c ≡ y = o 2 (omega arith) in
-    let t : e .d ≡ z = o 3 (omega arith) in
-    rw (p, q, r, t)
+-- ---- `encode_rune`
 
 module _ (r used : ℕ) (e : Encoded) (is : octetsOf e ≡ encodeOf r) where
+  -- a byte of the encoding of n octets is `encode`'s, and 0 past them
+  octet : (n k : ℕ) → length (encodeOf r) ≡ n → byte (encodeOf r) k ≡ pick (ltb k n) (byte (e .a ∷ e .b ∷ e .c ∷ e .d ∷ []) k) 0
+  octet n k l = go (ltb k n) refl
+    where
+      four : List ℕ
+      four = e .a ∷ e .b ∷ e .c ∷ e .d ∷ []
+
+      go : (b : Bool) → ltb k n ≡ b → byte (encodeOf r) k ≡ pick b (byte four k) 0
+      go true q =
+          let h = ltb-true k n q in
+          rw (← is) (getD-take (e .len) four k 0 (omega (arith, ap length is, length-take (e .len) four)))
+      go false q = let h = ltb-false k n q in List·getD-eq-default (encodeOf r) 0 (omega arith)
+
+  rune : (n : ℕ) → length (encodeOf r) ≡ n
+      → Bytes n (pick (ltb 0 n) (e .a) 0) (pick (ltb 1 n) (e .b) 0) (pick (ltb 2 n) (e .c) 0) (pick (ltb 3 n) (e .d) 0) used ≡ bytesPiece (encodeOf r) used
+  rune n l = rw (octet n 0 l, octet n 1 l, octet n 2 l, octet n 3 l, l)
+
   pub rune-1 : (p : Piece) → r < 0x80 → p ≡ Bytes 1 (e .a) 0 0 0 used → p ≡ bytesPiece (encodeOf r) used
   unfolding encodeOf
-  rune-1 p h q = q ∙ rw (lt-ltb r 0x80 h) (octets-1 used e r (rw (lt-ltb r 0x80 h) at is))
+  rune-1 p h q = q ∙ rune 1 (rw (lt-ltb r 0x80 h))
 
   pub rune-2 : 0x80 ≤ r → r < 0x800 → Bytes 2 (e .a) (e .b) 0 0 used ≡ bytesPiece (encodeOf r) used
   unfolding encodeOf
-  rune-2 l h =
-      let u = le-ltb r 0x80 l in
-      let v = lt-ltb r 0x800 h in
-      rw (u, v) (octets-2 used e _ _ (rw (u, v) at is))
+  rune-2 l h = rune 2 (rw (le-ltb r 0x80 l, lt-ltb r 0x800 h))
 
   pub rune-3 : 0x800 ≤ r → r < 0x10000 → Bytes 3 (e .a) (e .b) (e .c) 0 used ≡ bytesPiece (encodeOf r) used
   unfolding encodeOf
-  rune-3 l h =
-      let t = le-ltb r 0x80 (omega arith) in
-      let u = le-ltb r 0x800 l in
-      let v = lt-ltb r 0x10000 h in
-      rw (t, u, v) (octets-3 used e _ _ _ (rw (t, u, v) at is))
+  rune-3 l h = rune 3 (rw (le-ltb r 0x80 (omega arith), le-ltb r 0x800 l, lt-ltb r 0x10000 h))
 
   pub rune-4 : 0x10000 ≤ r → Bytes 4 (e .a) (e .b) (e .c) (e .d) used ≡ bytesPiece (encodeOf r) used
   unfolding encodeOf
-  rune-4 l =
-      let t = le-ltb r 0x80 (omega arith) in
-      let u = le-ltb r 0x800 (omega arith) in
-      let v = le-ltb r 0x10000 l in
-      rw (t, u, v) (octets-4 used e _ _ _ _ (rw (t, u, v) at is))
+  rune-4 l = rune 4 (rw (le-ltb r 0x80 (omega arith), le-ltb r 0x800 (omega arith), le-ltb r 0x10000 l))
 
 -- a valid code point is one that `encode` takes
 pub valid-low : (r : ℕ) (b : Bool) → b ≡ isScalar r → b ≡ true → r ≤ 0x10FFFF
 unfolding isScalar
 valid-low r b e t = leb-true r 0x10FFFF (and-left _ _ (sym e ∙ t))
 
--- `hex_escape` and `oct_escape`: two digits below the base, whose number is a byte
+-- ---- `hex_escape` and `oct_escape`
+
+-- two digits below the base
 module _ (base h k : ℕ) (t : ltb h base && ltb k base ≡ true) where
   first-below : h < base
   first-below = ltb-true h base (and-left (ltb h base) (ltb k base) t)
@@ -102,47 +75,39 @@ module _ (base h k : ℕ) (t : ltb h base && ltb k base ≡ true) where
   second-below : k < base
   second-below = ltb-true k base (and-right (ltb h base) (ltb k base) t)
 
-module _ (h k : ℕ) (t : ltb h 16 && ltb k 16 ≡ true) where
-  pub hex-fits : Fits w8 (h * 16)
-  hex-fits = omega (arith, first-below 16 h k t)
+module _ (h k : ℕ) where
+  module _ (t : ltb h 16 && ltb k 16 ≡ true) where
+    pub hex-fits : Fits w8 (h * 16)
+    hex-fits = omega (arith, first-below 16 h k t)
 
-  pub hex-fits-2 : Fits w8 (h * 16 + k)
-  hex-fits-2 = omega (arith, first-below 16 h k t, second-below 16 h k t)
+    pub hex-fits-2 : Fits w8 (h * 16 + k)
+    hex-fits-2 = omega (arith, first-below 16 h k t, second-below 16 h k t)
 
-module _ (f h k : ℕ) (t : ltb h 8 && ltb k 8 ≡ true) (low : 48 ≤ f) (high : f ≤ 51) where
-  pub oct-fits : Fits w8 (h * 8)
-  oct-fits = omega (arith, first-below 8 h k t)
+  module _ (f : ℕ) (t : ltb h 8 && ltb k 8 ≡ true) (low : 48 ≤ f) (high : f ≤ 51) where
+    pub oct-fits : Fits w8 (h * 8)
+    oct-fits = omega (arith, first-below 8 h k t)
 
-  pub oct-fits-2 : Fits w8 ((f - 48) * 64 + h * 8)
-  oct-fits-2 = omega (arith, first-below 8 h k t)
+    pub oct-fits-2 : Fits w8 ((f - 48) * 64 + h * 8)
+    oct-fits-2 = omega (arith, first-below 8 h k t)
 
-  pub oct-fits-3 : Fits w8 ((f - 48) * 64 + h * 8 + k)
-  oct-fits-3 = omega (arith, first-below 8 h k t, second-below 8 h k t)
+    pub oct-fits-3 : Fits w8 ((f - 48) * 64 + h * 8 + k)
+    oct-fits-3 = omega (arith, first-below 8 h k t, second-below 8 h k t)
 
-module _ (l : List ℕ) (x y : ℕ) (ex : x ≡ byte l 2) (ey : y ≡ byte l 3) where
-  module _ (h k : ℕ) (eh : h ≡ hexOf x) (ek : k ≡ hexOf y) where
-    hex-is : hexPiece l ≡ pick (ltb h 16 && ltb k 16) (Bytes 1 (h * 16 + k) 0 0 0 4) (Bad reasons.badX 0x78 2)
-    unfolding hexPiece
-    hex-is = rw (eh, ek, ex, ey)
+-- t says whether both are digits
+module _ (l : List ℕ) (x y : ℕ) (ex : x ≡ byte l 2) (ey : y ≡ byte l 3) (p : Piece) (h k : ℕ) (t : Bool) where
+  pub hex-row : h ≡ hexOf x → k ≡ hexOf y → ltb h 16 && ltb k 16 ≡ t
+      → p ≡ pick t (Bytes 1 (h * 16 + k) 0 0 0 4) (Bad reasons.badX 0x78 2) → p ≡ hexPiece l
+  unfolding hexPiece
+  hex-row eh ek et e = rw (← ex, ← ey, ← eh, ← ek, et) e
 
-    pub hex-good : (p : Piece) → ltb h 16 && ltb k 16 ≡ true → p ≡ Bytes 1 (h * 16 + k) 0 0 0 4 → p ≡ hexPiece l
-    hex-good p t e = rw (hex-is, t) e
+  pub oct-row : (f : ℕ) → h ≡ octOf x → k ≡ octOf y → ltb h 8 && ltb k 8 ≡ t
+      → p ≡ pick t (Bytes 1 ((f - 48) * 64 + h * 8 + k) 0 0 0 4) (Bad reasons.badOctal f 2) → p ≡ octPiece f l
+  unfolding octPiece
+  oct-row f eh ek et e = rw (← ex, ← ey, ← eh, ← ek, et) e
 
-    pub hex-bad : (p : Piece) → ltb h 16 && ltb k 16 ≡ false → p ≡ Bad reasons.badX 0x78 2 → p ≡ hexPiece l
-    hex-bad p t e = rw (hex-is, t) e
+-- ---- `code_escape`
 
-  module _ (f h k : ℕ) (eh : h ≡ octOf x) (ek : k ≡ octOf y) where
-    oct-is : octPiece f l ≡ pick (ltb h 8 && ltb k 8) (Bytes 1 ((f - 48) * 64 + h * 8 + k) 0 0 0 4) (Bad reasons.badOctal f 2)
-    unfolding octPiece
-    oct-is = rw (eh, ek, ex, ey)
-
-    pub oct-good : (p : Piece) → ltb h 8 && ltb k 8 ≡ true → p ≡ Bytes 1 ((f - 48) * 64 + h * 8 + k) 0 0 0 4 → p ≡ octPiece f l
-    oct-good p t e = rw (oct-is, t) e
-
-    pub oct-bad : (p : Piece) → ltb h 8 && ltb k 8 ≡ false → p ≡ Bad reasons.badOctal f 2 → p ≡ octPiece f l
-    oct-bad p t e = rw (oct-is, t) e
-
--- `code_escape` after k digits of n: l is the text after the letter, and r the number that they spell
+-- after k digits of n: l is the text after the letter, and r the number that they spell
 pub record Run (n : ℕ) (l : List ℕ) (r k : ℕ) : Type 0 where
   pub upto : k ≤ n
   pub count : hexCount n l ≡ k + hexCount (n - k) (drop k l)
@@ -231,13 +196,12 @@ module _ (n : ℕ) (t : List ℕ) (r k : ℕ) (long : n + 2 ≤ length t) (u : R
         let s : n ≤ length (drop 2 t) = rw (length-drop 2 t) (omega arith) in
         simp (le-ltb (length (drop 2 t)) n s, all-count, le-ltb n n (omega arith), all-value, ev)
 
-    pub code-point : (p : Piece) → v ≡ true → p ≡ bytesPiece (encodeOf r) (n + 2) → p ≡ codePiece n reason letter (drop 2 t)
-    code-point p b e = rw (opened, b) e
+    pub code-read : (p : Piece) (b : Bool) → v ≡ b → p ≡ pick b (bytesPiece (encodeOf r) (n + 2)) (Bad reason letter (n + 2))
+        → p ≡ codePiece n reason letter (drop 2 t)
+    code-read p b q e = rw (opened, q) e
 
-    pub code-bad : (p : Piece) → v ≡ false → p ≡ Bad reason letter (n + 2) → p ≡ codePiece n reason letter (drop 2 t)
-    code-bad p b e = rw (opened, b) e
+-- ---- `escape`
 
--- `escape`
 module _ (l : List ℕ) (s : ℕ) (es : s ≡ simpleOf (byte l 1)) where
   pub esc-simple : (p : Piece) → (s ≡ 0 → ⊥) → p ≡ Bytes 1 s 0 0 0 2 → p ≡ escapePiece l
   unfolding escapePiece
@@ -269,42 +233,19 @@ module _ (l : List ℕ) (s : ℕ) (es : s ≡ simpleOf (byte l 1)) where
           pub esc-unknown : (p : Piece) → within 48 51 (byte l 1) ≡ false → p ≡ Bad reasons.unknownEscape (byte l 1) 2 → p ≡ escapePiece l
           esc-unknown p t e = rw (rest, t) e
 
--- what the octal escape asks for
-pub oct-low : (e : ℕ) → within 48 51 e ≡ true → 48 ≤ e
-oct-low e t = within-low 48 51 e t
+-- ---- `next_piece`
 
-pub oct-high : (e : ℕ) → within 48 51 e ≡ true → e ≤ 51
-oct-high e t = within-high 48 51 e t
-
--- `next_piece`
 pub at-open : (t : List ℕ) → length t ≡ 0 → Open ≡ pieceOf t
 unfolding pieceOf
 at-open [] h = refl
 at-open (x ∷ l) h = absurd (omega arith)
 
-pub at-close : (t : List ℕ) → (length t ≡ 0 → ⊥) → byte t 0 ≡ 0x22 → Close ≡ pieceOf t
+-- the tests, of bytes and lengths of t
+pub at-more : (t : List ℕ) → (length t ≡ 0 → ⊥)
+    → pieceOf t
+    ≡ pick (eqb (byte t 0) 0x22) Close
+    (pick (eqb (byte t 0) 0x0A) Newline
+    (pick (eqb (byte t 0) 0x5C) (pick (eqb (length t) 1) Cut (escapePiece t)) (Bytes 1 (byte t 0) 0 0 0 1)))
 unfolding pieceOf
-at-close [] n h = absurd (n refl)
-at-close (x ∷ l) n h = simp (eq-eqb x 0x22 h)
-
-pub at-newline : (t : List ℕ) → (length t ≡ 0 → ⊥) → (byte t 0 ≡ 0x22 → ⊥) → byte t 0 ≡ 0x0A → Newline ≡ pieceOf t
-unfolding pieceOf
-at-newline [] n q h = absurd (n refl)
-at-newline (x ∷ l) n q h = simp (ne-eqb x 0x22 q, eq-eqb x 0x0A h)
-
-pub at-byte : (t : List ℕ) (p : Piece) → (length t ≡ 0 → ⊥) → (byte t 0 ≡ 0x22 → ⊥) → (byte t 0 ≡ 0x0A → ⊥) → (byte t 0 ≡ 0x5C → ⊥)
-    → p ≡ Bytes 1 (byte t 0) 0 0 0 1 → p ≡ pieceOf t
-unfolding pieceOf
-at-byte [] p n q m b e = absurd (n refl)
-at-byte (x ∷ l) p n q m b e = simp (e, ne-eqb x 0x22 q, ne-eqb x 0x0A m, ne-eqb x 0x5C b)
-
-pub at-cut : (t : List ℕ) → (byte t 0 ≡ 0x22 → ⊥) → (byte t 0 ≡ 0x0A → ⊥) → byte t 0 ≡ 0x5C → length t ≡ 1 → Cut ≡ pieceOf t
-unfolding pieceOf
-at-cut [] q m b h = absurd (omega arith)
-at-cut (x ∷ l) q m b h = simp (ne-eqb x 0x22 q, ne-eqb x 0x0A m, eq-eqb x 0x5C b, eq-eqb (length l) 0 (omega arith))
-
-pub at-escape : (t : List ℕ) (p : Piece) → (length t ≡ 0 → ⊥) → (byte t 0 ≡ 0x22 → ⊥) → (byte t 0 ≡ 0x0A → ⊥) → byte t 0 ≡ 0x5C
-    → (length t ≡ 1 → ⊥) → p ≡ escapePiece t → p ≡ pieceOf t
-unfolding pieceOf
-at-escape [] p n q m b h e = absurd (n refl)
-at-escape (x ∷ l) p n q m b h e = simp (e, ne-eqb x 0x22 q, ne-eqb x 0x0A m, eq-eqb x 0x5C b, ne-eqb (length l) 0 (λ z. h (ap suc z)))
+at-more [] n = absurd (n refl)
+at-more (x ∷ l) n = rw (eqb·suc-suc (length l) 0)

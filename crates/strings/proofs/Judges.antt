@@ -1,4 +1,4 @@
--- What `lex_strict` and `lex_tolerant` make of what is measured: each return is a row of `lexString`. Assumes nothing.
+-- For `lex_strict` and `lex_tolerant`: what they make of what is measured is a row of `lexString`. By the measured state. Assumes nothing.
 use mathlib.Core.Path.{_≡_, refl, sym, ap, _∙_}
 use mathlib.Core.List.{List}
 use Prim.Native.Nat.{ℕ, _+_, _^_, _≤_, _<_}
@@ -8,7 +8,6 @@ use lib.Dec.{eqb}
 use lib.ListN.{length, length-append}
 use mir.Syntax.{w64}
 use mir.Val.{Fits}
-use Rattle.utf8.specs.Check.{charEnd}
 use Rattle.utf8.specs.State.{fresh}
 use Rattle.utf8.proofs.States.{state-law}
 use Rattle.token.specs.Reason as reasons
@@ -16,31 +15,11 @@ use Rattle.token.specs.declared.kind.TokenKind.the-variants as K
 use Rattle.lexeme.specs.Lexeme.{extent, illegalReported, illegal}
 use Rattle.lexeme.specs.declared.Lexeme.{Lexeme}
 use Rattle.lexeme.specs.declared.Mode.the-variants.{Strict, Tolerant}
-use Rattle.strings.specs.Decode.{Decoded, letterDetail, measured}
-use Rattle.strings.specs.Literal.{wellFormed, literalOf, endReason, literalReason, endDetail, endOf, endNotes, literalNotes, lexString}
-use Rattle.strings.specs.declared.literal.End.{End}
-use Rattle.strings.specs.declared.literal.End.the-variants as end
+use Rattle.strings.specs.Decode.{Decoded}
+use Rattle.strings.specs.Helpers.{measured}
+use Rattle.strings.specs.Literal.{wellFormed, literalOf, endReason, literalReason, endDetail, literalEnd, endNotes, literalNotes, lexString}
 use Rattle.strings.specs.declared.literal.Measure.{Measure}
 use Rattle.strings.proofs.Bounds.{Bounds, literal-bounds, Sound, zero-sound, tolerant-sound}
-
--- `letter_detail` and `end_of`: only an unknown escape has its letter as detail, and ends after a character
-module _ (reason letter : ℕ) where
-  pub letter-unknown : reason ≡ reasons.unknownEscape → letter ≡ letterDetail reason letter
-  unfolding letterDetail
-  letter-unknown e = rw e
-
-  pub letter-other : (reason ≡ reasons.unknownEscape → ⊥) → 0 ≡ letterDetail reason letter
-  unfolding letterDetail
-  letter-other n = rw (ne-eqb reason reasons.unknownEscape n)
-
-  module _ (s : List ℕ) (e : End) (stop : ℕ) (is : e ≡ end.Bad reason letter) where
-    pub end-unknown : (x : ℕ) → reason ≡ reasons.unknownEscape → x ≡ charEnd s stop → x ≡ endOf s e stop
-    unfolding endOf
-    end-unknown x z q = rw (is, eq-eqb reason reasons.unknownEscape z) q
-
-    pub end-other : (reason ≡ reasons.unknownEscape → ⊥) → stop ≡ endOf s e stop
-    unfolding endOf
-    end-other n = rw (is, ne-eqb reason reasons.unknownEscape n)
 
 -- the state that is measured says whether the bytes are UTF-8
 module _ (d : Decoded) (m : Measure) (em : m ≡ measured 0 0 fresh d) where
@@ -64,7 +43,7 @@ module _ (s : List ℕ) (m : Measure) (em : m ≡ measured 0 0 fresh (literalOf 
   same-reason : endReason (literalOf Strict s .ending) ≡ reason
   same-reason = rw (← ended (literalOf Strict s) m em) (sym er)
 
-  pub strict-bad : (k x : ℕ) (r : Lexeme) → (reason ≡ reasons.none → ⊥) → k ≡ endDetail (m .end) → x ≡ endOf s (m .end) (m .stop) → r ≡ illegal reason k x
+  pub strict-bad : (k x : ℕ) (r : Lexeme) → (reason ≡ reasons.none → ⊥) → k ≡ endDetail (m .end) → x ≡ literalEnd s (m .end) (m .stop) → r ≡ illegal reason k x
       → r ≡ lexString Strict s
   unfolding lexString literalReason literalNotes
   strict-bad k x r n ek ex e =
@@ -86,7 +65,8 @@ module _ (s : List ℕ) (m : Measure) (em : m ≡ measured 0 0 fresh (literalOf 
         let d : Decoded = literalOf Strict s in
         e ∙ simp (same-reason, eq-eqb reason reasons.none z, formed d m em, eq-eqb (m .state .need) 0 n, counted d m em, stopped d m em)
 
-module _ (s : List ℕ) (m : Measure) (em : m ≡ measured 0 0 fresh (literalOf Tolerant s)) (h : 0 < length s) (k : ℕ) (ek : k ≡ length (endNotes (m .end))) where
+module _ (s : List ℕ) (m : Measure) (em : m ≡ measured 0 0 fresh (literalOf Tolerant s)) (h : 0 < length s) (k : ℕ)
+    (ek : k ≡ length (endNotes (m .end))) where
   noted : m .reports + k ≡ length (literalNotes Tolerant (literalOf Tolerant s))
   unfolding literalNotes
   noted =
@@ -99,7 +79,8 @@ module _ (s : List ℕ) (m : Measure) (em : m ≡ measured 0 0 fresh (literalOf 
   pub tolerant-string : (r : Lexeme) → m .state .need ≡ 0 → r ≡ extent K.String (m .stop) 0 (m .count) (m .reports + k) → r ≡ lexString Tolerant s
   unfolding lexString literalReason
   tolerant-string r n e =
-      e ∙ simp (noted, formed (literalOf Tolerant s) m em, eq-eqb (m .state .need) 0 n, counted (literalOf Tolerant s) m em, stopped (literalOf Tolerant s) m em)
+      let d : Decoded = literalOf Tolerant s in
+      e ∙ simp (noted, formed d m em, eq-eqb (m .state .need) 0 n, counted d m em, stopped d m em)
 
   pub tolerant-ill : (r : Lexeme) → (m .state .need ≡ 0 → ⊥) → r ≡ illegalReported reasons.stringNotUtf8 0 (m .stop) (m .reports + k)
       → r ≡ lexString Tolerant s

@@ -1,5 +1,5 @@
--- Laws of `lexString`, for whoever calls it: its numbers are in bounds, its bytes and reports are counted, its bytes are UTF-8, and it ends
--- between characters of a well-formed text. By steps, and by cases on the ending. Assumes nothing.
+-- Laws of `lexString` for the crate above, `lexer`: its numbers are in bounds, its bytes and reports counted, its bytes UTF-8,
+-- and it ends between characters of a well-formed text. By steps of `decode`, and by cases on the ending. Assumes nothing.
 use mathlib.Core.Path.{_≡_, refl}
 use mathlib.Core.Bool.{Bool, true, false}
 use mathlib.Core.List.{List, [], _∷_, List·Memᴰ, List·Memᴰ·not-nil, List·Memᴰ·append-cases, List·Memᴰ·eq-of-singleton}
@@ -12,14 +12,15 @@ use lib.ListN.{length, drop, length-append, length-drop}
 use lib.Seq.{getD-drop}
 use Rattle.base.specs.Choice.{pick}
 use Rattle.base.specs.Bytes.{byte, AreBytes}
-use Rattle.base.specs.Runs.{reach}
-use Rattle.base.proofs.Reaches.{reach-le, reach-ge, reach-fails}
-use Rattle.base.proofs.Tests.{pick-case, pick-le, under}
-use Rattle.utf8.specs.Grammar.{Octets, none, validTo, Boundary}
-use Rattle.utf8.specs.Check.{isTail, inTails, charEnd}
+use Rattle.base.proofs.Tests.{pick-case, pick-first, pick-le}
+use Rattle.utf8.specs.Grammar.{Octets, none, validTo}
+use Rattle.utf8.specs.Onward.{Boundary}
+use Rattle.utf8.specs.Check.{charEnd}
 use Rattle.utf8.proofs.Valid.{valid-octets}
-use Rattle.utf8.proofs.Boundaries.{boundary-at, ascii-boundary}
+use Rattle.utf8.proofs.Boundaries.{boundary-at, ascii-boundary, char-end-ge, char-end-le, char-end-boundary}
+use Rattle.utf8.proofs.Concatenations.{ascii-no-tail}
 use Rattle.token.specs.Reason as reasons
+use Rattle.token.specs.Helpers.{lastReason}
 use Rattle.token.specs.declared.kind.TokenKind.the-variants as K
 use Rattle.lexeme.specs.Lexeme.{Note, noteAtStart, extent, illegalReported}
 use Rattle.lexeme.specs.declared.Lexeme.{Lexeme}
@@ -27,51 +28,51 @@ use Rattle.lexeme.specs.declared.Mode.{Mode}
 use Rattle.lexeme.specs.declared.Mode.the-variants.{Strict, Tolerant}
 use Rattle.lexeme.proofs.Within.{Within, extent-within, illegal-within}
 use Rattle.strings.specs.Decode.{Decoded, letterDetail, stepNotes, decode}
-use Rattle.strings.specs.Literal.{wellFormed, literalOf, endReason, literalReason, endDetail, endOf, endNotes, literalNotes, lexString, Sized, stringBytes, stringNotes}
+use Rattle.strings.specs.Literal.{wellFormed, literalOf, endReason, literalReason, endDetail, literalEnd, endNotes, literalNotes}
+use Rattle.strings.specs.Literal.{lexString, stringBytes, stringNotes}
+use Rattle.strings.specs.Helpers.{Sized}
 use Rattle.strings.specs.declared.literal.End.{End}
 use Rattle.strings.specs.declared.literal.End.the-variants as end
-use Rattle.strings.proofs.Fine.{Taken}
+use Rattle.strings.proofs.PieceFacts.{Taken}
 use Rattle.strings.proofs.Decodes.{Went, Named, Clean, at-end, after, before, Ended, by-steps}
 use Rattle.strings.proofs.Bounds.{Bounds, literal-bounds, Sound, zero-sound, tolerant-sound}
 
 -- ---- a literal is a String with its bytes, or Illegal with none
 
 module _ (m : Mode) (s : List ℕ) (P : Lexeme → List ℕ → Type 0) where
-  pub by-verdict : (literalReason m (literalOf m s) ≡ reasons.none
-      → P (extent K.String (literalOf m s .stop) 0 (length (literalOf m s .bytes)) (length (literalNotes m (literalOf m s)))) (literalOf m s .bytes))
-      → ((literalReason m (literalOf m s) ≡ reasons.none → ⊥)
-      → P (illegalReported (literalReason m (literalOf m s)) (endDetail (literalOf m s .ending)) (endOf s (literalOf m s .ending) (literalOf m s .stop))
-      (length (literalNotes m (literalOf m s)))) [])
+  by-verdict : let d = literalOf m s in
+      let reports = length (literalNotes m d) in
+      (literalReason m d ≡ reasons.none → P (extent K.String (d .stop) 0 (length (d .bytes)) reports) (d .bytes))
+      → ((literalReason m d ≡ reasons.none → ⊥)
+      → P (illegalReported (literalReason m d) (endDetail (d .ending)) (literalEnd s (d .ending) (d .stop)) reports) [])
       → P (lexString m s) (stringBytes m s)
   unfolding lexString stringBytes
   by-verdict f g = go (eqb (literalReason m (literalOf m s)) reasons.none) refl
     where
-      go : (b : Bool) → eqb (literalReason m (literalOf m s)) reasons.none ≡ b
-          → P (pick b (extent K.String (literalOf m s .stop) 0 (length (literalOf m s .bytes)) (length (literalNotes m (literalOf m s))))
-          (illegalReported (literalReason m (literalOf m s)) (endDetail (literalOf m s .ending)) (endOf s (literalOf m s .ending) (literalOf m s .stop))
-          (length (literalNotes m (literalOf m s)))))
-          (pick b (literalOf m s .bytes) [])
+      go : let d = literalOf m s in
+          (b : Bool) → eqb (literalReason m d) reasons.none ≡ b
+          → P (pick b (extent K.String (d .stop) 0 (length (d .bytes)) (length (literalNotes m d)))
+          (illegalReported (literalReason m d) (endDetail (d .ending)) (literalEnd s (d .ending) (d .stop)) (length (literalNotes m d))))
+          (pick b (d .bytes) [])
       go true e = f (eqb-true (literalReason m (literalOf m s)) reasons.none e)
       go false e = g (eqb-false (literalReason m (literalOf m s)) reasons.none e)
 
 -- without a reason the bytes are UTF-8, and a strict ending has none
-formed-pick : (x w : Bool) (r : ℕ) → eqb r reasons.none ≡ x → pick x (pick w reasons.none reasons.stringNotUtf8) r ≡ reasons.none → w ≡ true
-formed-pick true true r e z = refl
-formed-pick true false r e z = absurd (omega arith)
-formed-pick false w r e z = absurd (eqb-false r reasons.none e z)
-
-sound-pick : (x w : Bool) (r : ℕ) → eqb r reasons.none ≡ x → pick x (pick w reasons.none reasons.stringNotUtf8) r ≡ reasons.none → r ≡ reasons.none
-sound-pick true w r e z = eqb-true r reasons.none e
-sound-pick false w r e z = z
+utf8-pick : (w : Bool) → pick w reasons.none reasons.stringNotUtf8 ≡ reasons.none → w ≡ true
+utf8-pick w z = pick-first w (λ e. omega arith) z .0
 
 formed : (m : Mode) (d : Decoded) → literalReason m d ≡ reasons.none → wellFormed (d .bytes) ≡ true
 unfolding literalReason
-formed Strict d z = formed-pick (eqb (endReason (d .ending)) reasons.none) (wellFormed (d .bytes)) (endReason (d .ending)) refl z
-formed Tolerant d z = formed-pick true (wellFormed (d .bytes)) reasons.none refl z
+formed Strict d =
+    pick-case (λ (r : ℕ). r ≡ reasons.none → wellFormed (d .bytes) ≡ true) (eqb (endReason (d .ending)) reasons.none)
+    (λ _. utf8-pick (wellFormed (d .bytes))) (λ e z. absurd (eqb-false (endReason (d .ending)) reasons.none e z))
+formed Tolerant d = utf8-pick (wellFormed (d .bytes))
 
 unreasoned : (d : Decoded) → literalReason Strict d ≡ reasons.none → endReason (d .ending) ≡ reasons.none
 unfolding literalReason
-unreasoned d z = sound-pick (eqb (endReason (d .ending)) reasons.none) (wellFormed (d .bytes)) (endReason (d .ending)) refl z
+unreasoned d =
+    pick-case (λ (r : ℕ). r ≡ reasons.none → endReason (d .ending) ≡ reasons.none) (eqb (endReason (d .ending)) reasons.none)
+    (λ e _. eqb-true (endReason (d .ending)) reasons.none e) (λ _ z. z)
 
 -- so a strict String is closed
 named-closed : (l : List ℕ) (e : End) → Named Strict l e → endReason e ≡ reasons.none → e ≡ end.Closed
@@ -111,10 +112,7 @@ module _ (m : Mode) (s : List ℕ) where
   pub string-kind : (lexString m s .kind ≡ K.String) ⊎ (lexString m s .kind ≡ K.Illegal)
   string-kind = by-verdict m s (λ r bs. (r .kind ≡ K.String) ⊎ (r .kind ≡ K.Illegal)) (λ _. inl refl) (λ _. inr refl)
 
-  -- a String has no reason, the decoded bytes, and these are UTF-8
-  pub string-reason : lexString m s .kind ≡ K.String → lexString m s .reason ≡ reasons.none
-  string-reason = by-verdict m s (λ r bs. r .kind ≡ K.String → r .reason ≡ reasons.none) (λ _ _. refl) (λ _ k. cc)
-
+  -- a String has the decoded bytes
   pub string-bytes : lexString m s .kind ≡ K.String → stringBytes m s ≡ literalOf m s .bytes
   string-bytes = by-verdict m s (λ r bs. r .kind ≡ K.String → bs ≡ literalOf m s .bytes) (λ _ _. refl) (λ _ k. cc)
 
@@ -131,25 +129,17 @@ module _ (m : Mode) (s : List ℕ) where
       let l : List ℕ = literalOf m s .bytes in
       by-verdict m s (λ r bs. Octets bs) (λ z. valid-octets l (eqb-true (validTo l) (length l) (formed m (literalOf m s) z))) (λ _. none)
 
-  -- an Illegal literal has a reason, and no bytes
-  pub illegal-reason : lexString m s .kind ≡ K.Illegal → reasons.none < lexString m s .reason
-  illegal-reason =
-      by-verdict m s (λ r bs. r .kind ≡ K.Illegal → reasons.none < r .reason) (λ _ k. let z : _≡_ {A = ℕ} 0 1 = cc in absurd (omega arith)) (λ n _. omega arith)
-
+  -- an Illegal literal has none
   pub illegal-bytes : lexString m s .kind ≡ K.Illegal → stringBytes m s ≡ []
   illegal-bytes = by-verdict m s (λ r bs. r .kind ≡ K.Illegal → bs ≡ []) (λ _ k. cc) (λ _ _. refl)
 
 -- ---- bounds
 
-reason-pick : (x w : Bool) (r : ℕ) → r ≤ reasons.openString → pick x (pick w reasons.none reasons.stringNotUtf8) r ≤ reasons.lastIllegal
-reason-pick true true r h = lit≤ tt
-reason-pick true false r h = lit≤ tt
-reason-pick false w r h = omega arith
-
 reason-le : (m : Mode) (d : Decoded) → endReason (d .ending) ≤ reasons.openString → literalReason m d ≤ reasons.lastIllegal
 unfolding literalReason
-reason-le Strict d h = reason-pick (eqb (endReason (d .ending)) reasons.none) (wellFormed (d .bytes)) (endReason (d .ending)) h
-reason-le Tolerant d h = reason-pick true (wellFormed (d .bytes)) reasons.none (lit≤ tt)
+reason-le Strict d h =
+    pick-le (eqb (endReason (d .ending)) reasons.none) (pick-le (wellFormed (d .bytes)) (lit≤ tt) (lit≤ tt)) (omega arith)
+reason-le Tolerant d h = pick-le (wellFormed (d .bytes)) (lit≤ tt) (lit≤ tt)
 
 -- an ending makes one report at most
 end-le : (e : End) → length (endNotes e) ≤ 1
@@ -166,44 +156,26 @@ notes-le Strict d = omega arith
 notes-le Tolerant d = omega (arith, length-append (d .notes) (endNotes (d .ending)), end-le (d .ending))
 
 -- an ending leaves the end where it is, or moves it to the end of a character
-module _ (s : List ℕ) (e : End) (p : ℕ) where
-  end-ge : p ≤ endOf s e p
-  unfolding endOf charEnd
-  end-ge = go e
-    where
-      go : (e : End) → p ≤ endOf s e p
-      go end.Closed = omega arith
-      go end.AtNewline = omega arith
-      go end.Cut = omega arith
-      go end.Open = omega arith
-      go (end.Bad reason letter) = pick-case (λ (x : ℕ). p ≤ x) (eqb reason reasons.unknownEscape) (λ _. reach-ge inTails s p) (λ _. omega arith)
-
-  end-in : p ≤ length s → endOf s e p ≤ length s
-  unfolding endOf charEnd
-  end-in h = go e
-    where
-      go : (e : End) → endOf s e p ≤ length s
-      go end.Closed = h
-      go end.AtNewline = h
-      go end.Cut = h
-      go end.Open = h
-      go (end.Bad reason letter) = pick-le (eqb reason reasons.unknownEscape) (reach-le inTails s p h) h
-
-detail-pick : (b : Bool) (x : ℕ) → x < 256 → pick b x 0 ≤ 255
-detail-pick b x h = pick-le b (omega arith) (omega arith)
+end-case : (s : List ℕ) (p : ℕ) (P : ℕ → Type 0) → P p → P (charEnd s p) → (e : End) → P (literalEnd s e p)
+unfolding literalEnd
+end-case s p P f g end.Closed = f
+end-case s p P f g end.AtNewline = f
+end-case s p P f g end.Cut = f
+end-case s p P f g end.Open = f
+end-case s p P f g (end.Bad reason letter) = pick-case P (eqb reason reasons.unknownEscape) (λ _. g) (λ _. f)
 
 letter-le : (reason letter : ℕ) → letter < 256 → letterDetail reason letter ≤ 255
 unfolding letterDetail
-letter-le reason letter h = detail-pick (eqb reason reasons.unknownEscape) letter h
+letter-le reason letter h = pick-le (eqb reason reasons.unknownEscape) (omega arith) (omega arith)
 
 -- a report of a literal
 pub record NoteIn (s : List ℕ) (n : Note) : Type 0 where
-  pub reason-in : n .reason ≤ reasons.last
+  pub reason-in : n .reason ≤ lastReason
   pub detail-in : AreBytes s → n .detail ≤ 255
   pub offset-in : n .offset ≤ length s
 
 -- the report of an ending
-start-note : (s : List ℕ) (x : Note) (r : ℕ) → r ≤ reasons.last → List·Memᴰ x (noteAtStart r ∷ []) → NoteIn s x
+start-note : (s : List ℕ) (x : Note) (r : ℕ) → r ≤ lastReason → List·Memᴰ x (noteAtStart r ∷ []) → NoteIn s x
 start-note s x r h q = rw (List·Memᴰ·eq-of-singleton q) (record { reason-in = h; detail-in = λ _. zero-le; offset-in = zero-le })
 
 end-note : (s : List ℕ) (x : Note) (e : End) → List·Memᴰ x (endNotes e) → NoteIn s x
@@ -262,11 +234,12 @@ module _ (m : Mode) (s : List ℕ) (h : 0 < length s) where
       let d : Decoded = literalOf m s in
       let b : Bounds s 1 d = literal-bounds m s h in
       let n = notes-le m d in
-      let g = end-ge s (d .ending) (d .stop) in
+      let lo = end-case s (d .stop) (λ (x : ℕ). d .stop ≤ x) (omega arith) (char-end-ge s (d .stop)) (d .ending) in
+      let hi = end-case s (d .stop) (λ (x : ℕ). x ≤ length s) (b .upto) (char-end-le s (d .stop) (b .upto)) (d .ending) in
       by-verdict m s (λ r bs. Within s r)
-      (λ _. extent-within s K.String (d .stop) (omega (arith, b .bytes-in)) (b .upto) 0 (length (d .bytes)) (length (literalNotes m d)) (omega (arith, b .bytes-in))
-      (omega (arith, b .notes-in)))
-      (λ _. illegal-within s _ _ _ _ (omega (arith, b .bytes-in)) (end-in s (d .ending) (d .stop) (b .upto)) (omega (arith, b .notes-in))
+      (λ _. extent-within s K.String (d .stop) (omega (arith, b .bytes-in)) (b .upto) 0 (length (d .bytes)) (length (literalNotes m d))
+      (omega (arith, b .bytes-in)) (omega (arith, b .notes-in)))
+      (λ _. illegal-within s _ _ _ _ (omega (arith, b .bytes-in)) hi (omega (arith, b .notes-in))
       (reason-le m d (b .reason)) (λ bytes. omega (arith, lettered .detail bytes)))
 
   -- every report of it
@@ -282,26 +255,17 @@ module _ (m : Mode) (s : List ℕ) (h : 0 < length s) where
 
 -- ---- the end of a literal in a well-formed text
 
-no-tail : (x : ℕ) → x < 0x80 → isTail x ≡ false
-unfolding isTail
-no-tail x h = under 0x80 0xBF x h
-
 module _ (m : Mode) (s : List ℕ) (h : 0 < length s) (b : Boundary s 0) where
   clean-boundary : (i k : ℕ) → i + k ≤ length s → Clean (drop i s) k → Boundary s (i + k)
   clean-boundary i k l (at-end e) =
       boundary-at s (i + k) l (λ g. absurd (omega (arith, length-drop i s))) 0 zero-le b
   clean-boundary i k l (before a) =
-      boundary-at s (i + k) l (λ g. no-tail (byte s (i + k)) (rw (getD-drop i s k 0) at a)) 0 zero-le b
+      boundary-at s (i + k) l (λ g. ascii-no-tail (byte s (i + k)) (rw (getD-drop i s k 0) at a)) 0 zero-le b
   clean-boundary i k l (after p a) =
       let j = i + (k - 1) in
       let q : i + (k - 1) + 1 ≡ i + k = omega arith in
       let c : byte s (i + (k - 1)) < 0x80 = rw (getD-drop i s (k - 1) 0) at a in
-      rw q at (ascii-boundary s j (omega arith) c (boundary-at s j (omega arith) (λ _. no-tail (byte s j) c) 0 zero-le b))
-
-  -- after a character
-  char-boundary : (p : ℕ) → p ≤ length s → Boundary s (charEnd s p)
-  unfolding charEnd
-  char-boundary p g = boundary-at s (reach inTails s p) (reach-le inTails s p g) (λ l. reach-fails inTails s p l) 0 zero-le b
+      rw q at (ascii-boundary s j (omega arith) c (boundary-at s j (omega arith) (λ _. ascii-no-tail (byte s j) c) 0 zero-le b))
 
   module _ (i p : ℕ) (l : i ≤ length s) (g : i ≤ p) where
     stop-in : (e : End) → Ended m (drop i s) e (p - i) → p ≤ length s
@@ -312,14 +276,14 @@ module _ (m : Mode) (s : List ℕ) (h : 0 < length s) (b : Boundary s 0) where
         let q : i + (p - i) ≡ p = omega arith in
         rw q at (clean-boundary i (p - i) (omega (arith, stop-in e u)) (u .clean n))
 
-    end-boundary : (e : End) → Ended m (drop i s) e (p - i) → Boundary s (endOf s e p)
-    unfolding endOf endReason
+    end-boundary : (e : End) → Ended m (drop i s) e (p - i) → Boundary s (literalEnd s e p)
+    unfolding literalEnd endReason
     end-boundary end.Closed u = stop-boundary end.Closed u (λ z. omega arith)
     end-boundary end.AtNewline u = stop-boundary end.AtNewline u (λ z. omega arith)
     end-boundary end.Cut u = stop-boundary end.Cut u (λ z. omega arith)
     end-boundary end.Open u = stop-boundary end.Open u (λ z. omega arith)
     end-boundary (end.Bad reason letter) u =
-        pick-case (Boundary s) (eqb reason reasons.unknownEscape) (λ _. char-boundary p (stop-in (end.Bad reason letter) u))
+        pick-case (Boundary s) (eqb reason reasons.unknownEscape) (λ _. char-end-boundary s p (stop-in (end.Bad reason letter) u) b)
         (λ e. stop-boundary (end.Bad reason letter) u (eqb-false reason reasons.unknownEscape e))
 
   -- a literal at the front of a well-formed text ends between characters
@@ -327,7 +291,7 @@ module _ (m : Mode) (s : List ℕ) (h : 0 < length s) (b : Boundary s 0) where
   unfolding literalOf
   string-boundary =
       let d : Decoded = literalOf m s in
-      let v : Boundary s (endOf s (d .ending) (d .stop)) =
-      by-steps m s (λ (i : ℕ) (x : Decoded). Boundary s (endOf s (x .ending) (x .stop))) (λ i e p k g u. end-boundary i p k g e u)
+      let v : Boundary s (literalEnd s (d .ending) (d .stop)) =
+      by-steps m s (λ (i : ℕ) (x : Decoded). Boundary s (literalEnd s (x .ending) (x .stop))) (λ i e p k g u. end-boundary i p k g e u)
       (λ i n a b c d used reason r k w v. v) 1 h in
       by-verdict m s (λ r bs. Boundary s (r .len)) (λ z. rw (string-sound m s h z .stays (d .stop)) at v) (λ _. v)

@@ -1,13 +1,12 @@
-pub mod Values
-pub mod Escapes
-pub mod Fine
-pub mod Steps
-pub mod Decodes
-pub mod Parts
-pub mod Turns
-pub mod Bounds
-pub mod Closings
-pub mod Judges
-pub mod Notings
+mod Escapes
+mod PieceFacts
+mod Steps
+mod Decodes
+mod Parts
+mod Turns
+mod Bounds
+mod Closings
+mod Judges
+mod Notings
 pub mod Laws
-pub mod Examples
+mod Examples

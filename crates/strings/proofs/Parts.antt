@@ -1,146 +1,93 @@
--- Parts of a literal that are read at once. In a well-formed rest the run of bytes that stand for themselves ends between characters; escapes
--- of one letter are counted and stored one after the other; and parts that follow each other are one part. Assumes nothing.
+-- For `simple_at`, `simple_count`, `put_simple` and `part_at`, which read parts of a literal at once: escapes of one letter are counted and
+-- stored one by one; parts that follow each other are one part; each leaves a well-formed rest. By the escapes. Assumes nothing.
 use mathlib.Core.Path.{_≡_, refl, sym, ap, _∙_}
 use mathlib.Core.Bool.{Bool, true, false, not, _&&_, _||_}
 use mathlib.Core.List.{List, [], _∷_, _++_, append-assoc}
 use Prim.Native.Nat.{ℕ, suc, _+_, _-_, _*_, _^_, _≤_, _<_}
-use native.Mathlib.Nat.{add-zero}
+use native.Mathlib.Nat.{add-zero, add-assoc}
 use native.Mathlib.Numerals.{add-one}
 use native.Mathlib.Omega.{arith}
 use borrow.Author.Tests.{eq-eqb, ne-eqb, eqb-true, eqb-false, ltb-true, ltb-false, not-false}
 use lib.Dec.{eqb, ltb}
-use lib.ListN.{length, take, drop, set, length-drop, length-append, length-set, drop-of-length-le, List·getD-eq-default}
-use lib.Seq.{sets, drop-cons, drop-drop, length-take-le, getD-drop}
+use lib.ListN.{length, take, drop, set, length-drop, length-append, drop-of-length-le, List·getD-eq-default}
+use lib.Seq.{sets, drop-cons, drop-drop, getD-drop}
 use mir.Syntax.{w64}
 use mir.Val.{Fits}
-use Rattle.base.specs.Choice.{pick}
-use Rattle.base.specs.Bytes.{byte, within}
+use Rattle.base.specs.Bytes.{byte}
 use Rattle.base.specs.Runs.{reach}
-use Rattle.base.proofs.Reaches.{reach-ge, reach-le}
-use Rattle.base.proofs.Tests.{and-left, and-right, or-left, or-right, true-false, under}
-use Rattle.utf8.specs.Grammar.{Octets, none, Boundary}
+use Rattle.base.proofs.Tests.{and-left, and-right, or-left, or-right, pick-case, pick-same, true-false}
+use Rattle.utf8.specs.Grammar.{Octets, none}
+use Rattle.utf8.specs.Onward.{Boundary}
 use Rattle.utf8.specs.Check.{isTail, insideChar}
-use Rattle.utf8.proofs.Boundaries.{boundary-rest, rest-boundary, ascii-boundary, octets-cut, boundary-between, stop-boundary}
-use Rattle.utf8.proofs.Concatenations.{octets-append, ascii-octets}
+use Rattle.utf8.proofs.Boundaries.{boundary-rest, rest-boundary, octets-cut, boundary-between, stop-boundary}
+use Rattle.utf8.proofs.Concatenations.{octets-append, ascii-octets, ascii-rest, ascii-no-tail}
+use Rattle.lexeme.specs.declared.Mode.{Mode}
+use Rattle.lexeme.specs.declared.Mode.the-variants.{Strict}
 use Rattle.strings.specs.Piece.{look, letters, simpleOf}
 use Rattle.strings.specs.Plain.{isOrdinary, inOrdinary, simpleAt, simpleBytes, Spells}
 use Rattle.strings.specs.Decode.{prepend}
-use Rattle.strings.proofs.Decodes.{from, from-run, from-simple}
+use Rattle.strings.proofs.Decodes.{from, Gives, run-ge, run-in, run-gives, by-escapes, simple-in, simple-gives}
+use Rattle.base.proofs.Storings.{Storing, storing-first, storing-end, storing-room, storing-more}
 
 -- ---- text
 
 -- a byte that does not stand for itself is ASCII, and so no UTF8-tail
 stop-clean : (a : ℕ) → isOrdinary a ≡ false → isTail a ≡ false
-unfolding isOrdinary isTail
+unfolding isOrdinary
 stop-clean a e = go (ltb a 0x80) refl
   where
-    go : (b : Bool) → ltb a 0x80 ≡ b → within 0x80 0xBF a ≡ false
-    go true l = under 0x80 0xBF a (ltb-true a 0x80 l)
+    go : (b : Bool) → ltb a 0x80 ≡ b → isTail a ≡ false
+    go true l = ascii-no-tail a (ltb-true a 0x80 l)
     go false l =
         let h : 0x80 ≤ a = ltb-false a 0x80 l in
         true-false (isOrdinary a) (rw (ne-eqb a 0x22 (λ q. omega arith), ne-eqb a 0x0A (λ q. omega arith), ne-eqb a 0x5C (λ q. omega arith))) e
 
 -- ---- escapes of one letter
 
--- `simple_at`
-module _ (x y : ℕ) where
-  pub simple-none : (x ≡ 0x5C → ⊥) → 0 ≡ simpleAt x y
-  unfolding simpleAt
-  simple-none n = rw (ne-eqb x 0x5C n)
+-- `simple_at` at a backslash
+pub simple-some : (x y : ℕ) → x ≡ 0x5C → (b v : ℕ) → b ≡ y → v ≡ simpleOf b → v ≡ simpleAt x y
+unfolding simpleAt
+simple-some x y e b v p q = rw (eq-eqb x 0x5C e, ← p) q
 
-  pub simple-some : x ≡ 0x5C → (b v : ℕ) → b ≡ y → v ≡ simpleOf b → v ≡ simpleAt x y
-  unfolding simpleAt
-  simple-some e b v p q = rw (eq-eqb x 0x5C e, ← p) q
+-- the letters of the list and what they stand for are ASCII
+abbrev ascii : List (ℕ × ℕ) → Bool
+ascii [] = true
+ascii (p ∷ ps) = (ltb (p .0) 0x80 && ltb (p .1) 0x80) && ascii ps
 
--- each of them stands for an ASCII byte
-abbrev low : List (ℕ × ℕ) → Bool
-low [] = true
-low (p ∷ ps) = ltb (p .1) 0x80 && low ps
+look-ascii : (e : ℕ) (ps : List (ℕ × ℕ)) → ascii ps ≡ true → (look ps e < 0x80) × ((look ps e ≡ 0 → ⊥) → e < 0x80)
+look-ascii e [] h = (omega arith, λ n. absurd (n refl))
+look-ascii e (p ∷ ps) h =
+    let k = ltb (p .0) 0x80 in
+    let v = ltb (p .1) 0x80 in
+    let both = and-left (k && v) (ascii ps) h in
+    let rest = look-ascii e ps (and-right (k && v) (ascii ps) h) in
+    pick-case (λ (x : ℕ). (x < 0x80) × ((x ≡ 0 → ⊥) → e < 0x80)) (eqb e (p .0))
+    (λ q. (ltb-true (p .1) 0x80 (and-right k v both), λ _. rw (eqb-true e (p .0) q) (ltb-true (p .0) 0x80 (and-left k v both))))
+    (λ _. rest)
 
-look-low : (e : ℕ) (ps : List (ℕ × ℕ)) → low ps ≡ true → look ps e < 0x80
-look-low e [] h = omega arith
-look-low e (p ∷ ps) h = go (eqb e (p .0)) (look-low e ps (and-right (ltb (p .1) 0x80) (low ps) h))
-  where
-    go : (b : Bool) → look ps e < 0x80 → pick b (p .1) (look ps e) < 0x80
-    go true ih = ltb-true (p .1) 0x80 (and-left (ltb (p .1) 0x80) (low ps) h)
-    go false ih = ih
-
-at-low : (x y : ℕ) → simpleAt x y < 0x80
+at-ascii : (x y : ℕ) → (simpleAt x y < 0x80) × ((simpleAt x y ≡ 0 → ⊥) → (x < 0x80) × (y < 0x80))
 unfolding simpleAt simpleOf letters
-at-low x y = go (eqb x 0x5C)
-  where
-    go : (b : Bool) → pick b (look letters y) 0 < 0x80
-    go true = look-low y letters refl
-    go false = omega arith
-
-simple-whole : (l : List ℕ) → Octets (simpleBytes l)
-unfolding simpleBytes
-simple-whole [] = none
-simple-whole (x ∷ []) = none
-simple-whole (x ∷ y ∷ l) = go (eqb (simpleAt x y) 0) (simple-whole l)
-  where
-    go : (b : Bool) → Octets (simpleBytes l) → Octets (pick b [] (simpleAt x y ∷ simpleBytes l))
-    go true ih = none
-    go false ih = octets-append (ascii-octets (simpleAt x y) (at-low x y)) ih
-
-simple-le : (l : List ℕ) → 2 * length (simpleBytes l) ≤ length l
-unfolding simpleBytes
-simple-le [] = omega arith
-simple-le (x ∷ []) = omega arith
-simple-le (x ∷ y ∷ l) = go (eqb (simpleAt x y) 0) (simple-le l)
-  where
-    go : (b : Bool) → 2 * length (simpleBytes l) ≤ length l → 2 * length (pick b [] (simpleAt x y ∷ simpleBytes l)) ≤ suc (suc (length l))
-    go true ih = omega arith
-    go false ih = omega arith
-
-pub simple-inside : (s : List ℕ) (i n : ℕ) → i ≤ length s → n ≡ length (simpleBytes (drop i s)) → i + 2 * n ≤ length s
-simple-inside s i n h e = omega (arith, simple-le (drop i s), length-drop i s)
+at-ascii x y =
+    let l = look-ascii y letters refl in
+    pick-case (λ (v : ℕ). (v < 0x80) × ((v ≡ 0 → ⊥) → (x < 0x80) × (y < 0x80))) (eqb x 0x5C)
+    (λ q. (l .0, λ n. (omega (arith, eqb-true x 0x5C q), l .1 n))) (λ _. (omega arith, λ n. absurd (n refl)))
 
 at-zero : (x : ℕ) → simpleAt x 0 ≡ 0
 unfolding simpleAt simpleOf letters
-at-zero x = go (eqb x 0x5C)
-  where
-    go : (b : Bool) → pick b (look letters 0) 0 ≡ 0
-    go true = refl
-    go false = refl
+at-zero x = pick-same (eqb x 0x5C) 0
 
--- the letters of escapes of one letter are ASCII, so that the rest after them is well formed
-abbrev keys-low : List (ℕ × ℕ) → Bool
-keys-low [] = true
-keys-low (p ∷ ps) = ltb (p .0) 0x80 && keys-low ps
+simple-whole : (l : List ℕ) → Octets (simpleBytes l)
+simple-whole =
+    by-escapes (λ l v. Octets v) (λ l. none) (λ x y l e ih. octets-append (ascii-octets (simpleAt x y) (at-ascii x y .0)) ih)
 
-look-key : (e : ℕ) (ps : List (ℕ × ℕ)) → keys-low ps ≡ true → (look ps e ≡ 0 → ⊥) → e < 0x80
-look-key e [] h n = absurd (n refl)
-look-key e (p ∷ ps) h n = go (eqb e (p .0)) refl n (look-key e ps (and-right (ltb (p .0) 0x80) (keys-low ps) h))
-  where
-    go : (b : Bool) → eqb e (p .0) ≡ b → (pick b (p .1) (look ps e) ≡ 0 → ⊥) → ((look ps e ≡ 0 → ⊥) → e < 0x80) → e < 0x80
-    go true q n ih = rw (eqb-true e (p .0) q) (ltb-true (p .0) 0x80 (and-left (ltb (p .0) 0x80) (keys-low ps) h))
-    go false q n ih = ih n
-
-at-ascii : (x y : ℕ) → (simpleAt x y ≡ 0 → ⊥) → (x < 0x80) × (y < 0x80)
-unfolding simpleAt simpleOf letters
-at-ascii x y n = go (eqb x 0x5C) refl n
-  where
-    go : (b : Bool) → eqb x 0x5C ≡ b → (pick b (look letters y) 0 ≡ 0 → ⊥) → (x < 0x80) × (y < 0x80)
-    go true q n = (omega (arith, eqb-true x 0x5C q), look-key y letters refl n)
-    go false q n = absurd (n refl)
-
-ascii-rest : (x : ℕ) (l : List ℕ) → x < 0x80 → Octets (x ∷ l) → Octets l
-ascii-rest x l h o = boundary-rest (x ∷ l) 1 (ascii-boundary (x ∷ l) 0 (omega arith) h (rest-boundary (x ∷ l) 0 (omega arith) o))
-
+-- the rest after them is well formed
 simples-rest : (l : List ℕ) → Octets l → Octets (drop (2 * length (simpleBytes l)) l)
-unfolding simpleBytes
-simples-rest [] o = o
-simples-rest (x ∷ []) o = o
-simples-rest (x ∷ y ∷ l) o = go (eqb (simpleAt x y) 0) refl (simples-rest l)
-  where
-    go : (b : Bool) → eqb (simpleAt x y) 0 ≡ b → (Octets l → Octets (drop (2 * length (simpleBytes l)) l))
-        → Octets (drop (2 * length (pick b [] (simpleAt x y ∷ simpleBytes l))) (x ∷ y ∷ l))
-    go true q ih = o
-    go false q ih =
-        let a = at-ascii x y (eqb-false (simpleAt x y) 0 q) in
-        let k : 2 * suc (length (simpleBytes l)) ≡ suc (suc (2 * length (simpleBytes l))) = omega arith in
-        rw k (ih (ascii-rest y l (a .1) (ascii-rest x (y ∷ l) (a .0) o)))
+simples-rest =
+    by-escapes (λ l v. Octets l → Octets (drop (2 * length v) l)) (λ l o. o)
+    (λ x y l e ih o.
+    let a = at-ascii x y .1 (eqb-false (simpleAt x y) 0 e) in
+    let k : 2 * suc (length (simpleBytes l)) ≡ suc (suc (2 * length (simpleBytes l))) = omega arith in
+    rw k (ih (ascii-rest y l (a .1) (ascii-rest x (y ∷ l) (a .0) o))))
 
 -- the escapes from e on
 module _ (s : List ℕ) (e : ℕ) where
@@ -183,7 +130,7 @@ pub record Counting (s : List ℕ) (i e n : ℕ) : Type 0 where
   pub is : length (simpleBytes (drop i s)) ≡ n + length (simpleBytes (drop e s))
 
 pub counting-first : (s : List ℕ) (i : ℕ) → i ≤ length s → Counting s i i 0
-counting-first s i h = record { inside = h; few = omega arith; is = omega arith }
+counting-first s i h = omega arith
 
 module _ (s : List ℕ) (i e n : ℕ) (u : Counting s i e n) where
   pub counting-end : length s ≤ e → n ≡ length (simpleBytes (drop i s))
@@ -198,7 +145,7 @@ module _ (s : List ℕ) (i e n : ℕ) (u : Counting s i e n) where
       counting-more =
           let l = simples-two s e h v is z in
           let q = ap length (simples-more s e h v is z) in
-          record { inside = omega arith; few = omega (arith, u .few); is = omega (arith, u .is) }
+          omega (arith, u .few, u .is)
 
       pub counting-fits : length s < 2 ^ 64 → Fits w64 (n + 1)
       counting-fits l = omega (arith, counting-more .few, counting-more .inside)
@@ -209,31 +156,33 @@ module _ (s : List ℕ) (i e n : ℕ) (u : Counting s i e n) where
 -- `put_simple` at e, with the next byte to go to place + n
 pub record Putting (s : List ℕ) (i : ℕ) (out₀ : List ℕ) (place : ℕ) (out : List ℕ) (e n : ℕ) : Type 0 where
   pub counted : Counting s i e n
-  pub same : length out ≡ length out₀
-  pub is : sets out₀ place (simpleBytes (drop i s)) ≡ sets out (place + n) (simpleBytes (drop e s))
+  pub store : Storing (simpleBytes (drop i s)) out₀ place (simpleBytes (drop e s)) out (place + n)
 
-pub putting-first : (s : List ℕ) (i : ℕ) (out : List ℕ) (place : ℕ) → i ≤ length s → Putting s i out place out i 0
-putting-first s i out place h = record { counted = counting-first s i h; same = refl; is = rw (add-zero place) refl }
+pub putting-first : (s : List ℕ) (i : ℕ) (out : List ℕ) (place : ℕ) → i ≤ length s → place + length (simpleBytes (drop i s)) ≤ length out
+    → Putting s i out place out i 0
+putting-first s i out place h r = record { counted = counting-first s i h; store = rw (add-zero place) (storing-first r) }
 
 module _ (s : List ℕ) (i : ℕ) (out₀ : List ℕ) (place : ℕ) (out : List ℕ) (e n : ℕ) (u : Putting s i out₀ place out e n) where
   pub putting-end : length s ≤ e → out ≡ sets out₀ place (simpleBytes (drop i s))
-  putting-end h = sym (u .is ∙ rw (simples-end s e h))
+  putting-end h = storing-end (u .store) (simples-end s e h)
 
   module _ (h : e < length s) (v : ℕ) (is : v ≡ simpleAt (byte s e) (byte s (e + 1))) where
     pub putting-stop : v ≡ 0 → out ≡ sets out₀ place (simpleBytes (drop i s))
-    putting-stop z = sym (u .is ∙ rw (simples-stop s e h v is z))
+    putting-stop z = storing-end (u .store) (simples-stop s e h v is z)
 
     module _ (z : v ≡ 0 → ⊥) where
-      pub putting-room : place + length (simpleBytes (drop i s)) ≤ length out₀ → place + n < length out
-      putting-room r = omega (arith, u .counted .is, ap length (simples-more s e h v is z), u .same)
+      pub putting-room : place + n < length out
+      putting-room =
+          let r = storing-room (u .store) (v ∷ []) (simpleBytes (drop (e + 2) s)) (simples-more s e h v is z) {n = 1} refl in
+          omega arith
 
       pub putting-more : Putting s i out₀ place (set out (place + n) v) (e + 2) (n + 1)
       putting-more =
-          let k : place + (n + 1) ≡ suc (place + n) = omega arith in
           record {
             counted = counting-more s i e n (u .counted) h v is z;
-            same = length-set out (place + n) v ∙ u .same;
-            is = u .is ∙ rw (simples-more s e h v is z, k);
+            store =
+                rw (← add-assoc place n 1)
+                (storing-more (u .store) (v ∷ []) (simpleBytes (drop (e + 2) s)) (simples-more s e h v is z) refl (set out (place + n) v) refl);
           }
 
 -- ---- parts
@@ -241,8 +190,11 @@ module _ (s : List ℕ) (i : ℕ) (out₀ : List ℕ) (place : ℕ) (out : List 
 pub spells-none : (s : List ℕ) (i : ℕ) → i ≤ length s → Spells s i i 0
 spells-none s i h = record { bytes = []; count = refl; whole = none; later = omega arith; inside = h; is = λ m. refl }
 
-spells-then : (s : List ℕ) (i e r n k : ℕ) → Spells s i e n → Spells s e r k → Spells s i r (n + k)
-spells-then s i e r n k t u =
+pub spells-ge : {s : List ℕ} {i r n : ℕ} → Spells s i r n → i ≤ r
+spells-ge p = omega (arith, p .later)
+
+spells-then : {s : List ℕ} {i e r n k : ℕ} → Spells s i e n → Spells s e r k → Spells s i r (n + k)
+spells-then {s} {r = r} t u =
     record {
       bytes = t .bytes ++ u .bytes;
       count = length-append (t .bytes) (u .bytes) ∙ rw (t .count, u .count) refl;
@@ -253,27 +205,26 @@ spells-then s i e r n k t u =
     }
 
 -- the run of bytes that stand for themselves, in a well-formed rest: it ends between characters
-module _ (s : List ℕ) (i : ℕ) (h : i ≤ length s) (o : Octets (drop i s)) where
-  run-boundary : Boundary s (reach inOrdinary s i)
-  run-boundary = stop-boundary inOrdinary (λ a b. stop-clean a) s i i (omega arith) h (rest-boundary s i h o)
+module _ (s : List ℕ) (i e : ℕ) (ee : e ≡ reach inOrdinary s i) (h : i ≤ length s) (o : Octets (drop i s)) where
+  run-boundary : Boundary s e
+  run-boundary = rw ee (stop-boundary inOrdinary (λ a b. stop-clean a) s i i (omega arith) h (rest-boundary s i h o))
 
-  run-whole : Octets (take (reach inOrdinary s i - i) (drop i s))
+  run-whole : Octets (take (e - i) (drop i s))
   unfolding insideChar
   run-whole =
-      let r : ℕ = reach inOrdinary s i in
-      let k : i + (r - i) ≡ r = omega (arith, reach-ge inOrdinary s i) in
-      octets-cut o (r - i) (omega (arith, length-drop i s, reach-le inOrdinary s i h)) (rw (getD-drop i s (r - i) 0, k) (boundary-between s r run-boundary)) .0
+      let k : i + (e - i) ≡ e = omega (arith, run-ge s i e ee) in
+      octets-cut o (e - i) (omega (arith, length-drop i s, run-in s i e ee h)) (rw (getD-drop i s (e - i) 0, k) (boundary-between s e run-boundary)) .0
 
-  spells-run : Spells s i (reach inOrdinary s i) (reach inOrdinary s i - i)
+  spells-run : Spells s i e (e - i)
   spells-run =
-      let r : ℕ = reach inOrdinary s i in
+      let g : (m : Mode) → Gives m s i (take (e - i) (drop i s)) [] (e - i) e = run-gives s i e ee h in
       record {
-        bytes = take (r - i) (drop i s);
-        count = length-take-le (r - i) (drop i s) (omega (arith, length-drop i s, reach-le inOrdinary s i h));
+        bytes = take (e - i) (drop i s);
+        count = g Strict .count;
         whole = run-whole;
-        later = omega (arith, reach-ge inOrdinary s i);
-        inside = reach-le inOrdinary s i h;
-        is = λ m. from-run m s i h;
+        later = omega (arith, run-ge s i e ee);
+        inside = run-in s i e ee h;
+        is = λ m. g m .is;
       }
 
 spells-simple : (s : List ℕ) (i n : ℕ) → i ≤ length s → n ≡ length (simpleBytes (drop i s)) → Spells s i (i + 2 * n) n
@@ -283,8 +234,8 @@ spells-simple s i n h e =
       count = sym e;
       whole = simple-whole (drop i s);
       later = omega arith;
-      inside = simple-inside s i n h e;
-      is = λ m. from-simple m s i n e;
+      inside = simple-in s i n h e;
+      is = λ m. simple-gives s i n h e m .is;
     }
 
 -- `part_at` at `end`
@@ -301,25 +252,16 @@ unfolding insideChar
 parting-first s i h o e = record { spells = spells-none s i h; rest = octets-cut o i h e .1 }
 
 module _ (s : List ℕ) (i end count : ℕ) (u : Parting s i end count) (e : ℕ) (t : e ≡ reach inOrdinary s end) where
-  pub run-later : end ≤ e
-  run-later = rw t (reach-ge inOrdinary s end)
-
   pub run-inside : e ≤ length s
-  run-inside = rw t (reach-le inOrdinary s end (u .spells .inside))
+  run-inside = run-in s end e t (u .spells .inside)
 
   module _ (n : ℕ) (is : n ≡ length (simpleBytes (drop e s))) where
     pub spells-more : Spells s i (e + 2 * n) (count + (e - end + n))
-    spells-more =
-        let h = u .spells .inside in
-        let f : n ≡ length (simpleBytes (drop (reach inOrdinary s end) s)) = rw t at is in
-        rw t
-        (spells-then s i end (reach inOrdinary s end + 2 * n) count (reach inOrdinary s end - end + n) (u .spells)
-        (spells-then s end (reach inOrdinary s end) (reach inOrdinary s end + 2 * n) (reach inOrdinary s end - end) n (spells-run s end h (u .rest))
-        (spells-simple s (reach inOrdinary s end) n (reach-le inOrdinary s end h) f)))
+    spells-more = spells-then (u .spells) (spells-then (spells-run s end e t (u .spells .inside) (u .rest)) (spells-simple s e n run-inside is))
 
     pub parting-more : Parting s i (e + 2 * n) (count + (e - end + n))
     parting-more =
-        let o : Octets (drop e s) = rw t (boundary-rest s (reach inOrdinary s end) (run-boundary s end (u .spells .inside) (u .rest))) in
+        let o : Octets (drop e s) = boundary-rest s e (run-boundary s end e t (u .spells .inside) (u .rest)) in
         record { spells = spells-more; rest = rw (← is, drop-drop (2 * n) e s) at (simples-rest (drop e s) o) }
 
     pub sum-fits : length s < 2 ^ 64 → Fits w64 (e - end + n)
@@ -335,4 +277,4 @@ module _ (s : List ℕ) (i end count : ℕ) (u : Parting s i end count) (e : ℕ
     end-fits l = let p = spells-more in omega arith
 
     pub end-later : (n ≡ 0 → ⊥) → length s - (e + 2 * n) < length s - end
-    end-later z = let p = spells-more in omega (arith, run-later)
+    end-later z = let p = spells-more in omega (arith, run-ge s end e t)

@@ -2,4 +2,4 @@ pub mod Piece
 pub mod Decode
 pub mod Literal
 pub mod Plain
-pub mod Notes
+pub mod Helpers

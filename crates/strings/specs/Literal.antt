@@ -1,5 +1,4 @@
 -- The token that a string literal is, its decoded bytes and its reports: `lex_string` and `string_token`.
-use mathlib.Core.Path.{_≡_}
 use mathlib.Core.Bool.{Bool}
 use mathlib.Core.List.{List, [], _∷_, _++_}
 use Prim.Native.Nat.{ℕ}
@@ -17,6 +16,8 @@ use Rattle.lexeme.specs.declared.Mode.the-variants.{Strict, Tolerant}
 use Rattle.strings.specs.Decode.{Decoded, letterDetail, decode}
 use Rattle.strings.specs.declared.literal.End.{End}
 use Rattle.strings.specs.declared.literal.End.the-variants as end
+
+-- Types that other files explain: `TokenKind` in token/specs/Kind.antt; `Lexeme`, `Mode` in lexeme/specs/Lexeme.antt; `End` in Decode.antt.
 
 -- the bytes are UTF-8
 unfoldable pub wellFormed : List ℕ → Bool
@@ -52,12 +53,12 @@ endDetail end.Open = 0
 endDetail (end.Bad reason letter) = letterDetail reason letter
 
 -- where an ending leaves the token's end: "If the Rust stops inside a character ..; ours ends after that character", which only an unknown escape can
-unfoldable pub endOf : List ℕ → End → ℕ → ℕ
-endOf s end.Closed stop = stop
-endOf s end.AtNewline stop = stop
-endOf s end.Cut stop = stop
-endOf s end.Open stop = stop
-endOf s (end.Bad reason letter) stop = pick (eqb reason reasons.unknownEscape) (charEnd s stop) stop
+unfoldable pub literalEnd : List ℕ → End → ℕ → ℕ
+literalEnd s end.Closed stop = stop
+literalEnd s end.AtNewline stop = stop
+literalEnd s end.Cut stop = stop
+literalEnd s end.Open stop = stop
+literalEnd s (end.Bad reason letter) stop = pick (eqb reason reasons.unknownEscape) (charEnd s stop) stop
 
 -- the tolerant report of an ending, at the token's start: "string ended at newline", "open escape", "open string"
 unfoldable pub endNotes : End → List Note
@@ -76,18 +77,11 @@ literalNotes Tolerant d = d .notes ++ endNotes (d .ending)
 abbrev pub literalToken : Mode → List ℕ → Decoded → Lexeme
 literalToken m s d =
     pick (eqb (literalReason m d) reasons.none) (extent K.String (d .stop) 0 (length (d .bytes)) (length (literalNotes m d)))
-    (illegalReported (literalReason m d) (endDetail (d .ending)) (endOf s (d .ending) (d .stop)) (length (literalNotes m d)))
+    (illegalReported (literalReason m d) (endDetail (d .ending)) (literalEnd s (d .ending) (d .stop)) (length (literalNotes m d)))
 
 -- the string literal at the front of s, which begins with a quote
 unfoldable pub lexString : Mode → List ℕ → Lexeme
 lexString m s = literalToken m s (literalOf m s)
-
--- what a String of `lex_string` tells of its literal: the bytes of text that it takes, and how many it stands for. Strict, it is a String only where
--- the closing quote is met
-pub record Sized (m : Mode) (s : List ℕ) (len size : ℕ) : Type 0 where
-  pub count : length (literalOf m s .bytes) ≡ size
-  pub stop : literalOf m s .stop ≡ len
-  pub closed : m ≡ Strict → literalOf m s .ending ≡ end.Closed
 
 -- the bytes that go to the string buffer: a String's value; an Illegal literal has none
 unfoldable pub stringBytes : Mode → List ℕ → List ℕ

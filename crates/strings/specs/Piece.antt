@@ -2,6 +2,7 @@
 use mathlib.Core.Bool.{_&&_}
 use mathlib.Core.List.{List, [], _∷_}
 use Prim.Native.Nat.{ℕ, zero, suc, _+_, _-_, _*_}
+use Prim.Native.Char.{code}
 use lib.Dec.{ltb, eqb}
 use lib.ListN.{length, drop}
 use Rattle.base.specs.Choice.{pick}
@@ -11,13 +12,19 @@ use Rattle.token.specs.Reason as reasons
 use Rattle.strings.specs.declared.piece.Piece.{Piece}
 use Rattle.strings.specs.declared.piece.Piece.the-variants as piece
 
+-- Types of the code (src/piece.rt). `Piece`, what stands at the front of the rest of a literal: `Bytes n a b c d used`, `used` bytes of text that
+-- stand for the first n of the bytes a, b, c, d; `Bad reason letter used`, a bad escape of `used` bytes of text; `Close`, the closing quote;
+-- `Newline`, one that is not escaped; `Cut`, a backslash with nothing after it; `Open`, nothing.
+
 -- `hex_val`: a hexadecimal digit's value, and 16 of any other byte
 unfoldable pub hexOf : ℕ → ℕ
-hexOf c = pick (within 48 57 c) (c - 48) (pick (within 65 70 c) (c - 55) (pick (within 97 102 c) (c - 87) 16))
+hexOf c =
+    pick (within (code "0") (code "9") c) (c - code "0")
+    (pick (within (code "A") (code "F") c) (c - (code "A" - 10)) (pick (within (code "a") (code "f") c) (c - (code "a" - 10)) 16))
 
 -- `oct_val`: an octal digit's value, and 8 of any other byte
 unfoldable pub octOf : ℕ → ℕ
-octOf c = pick (within 48 55 c) (c - 48) 8
+octOf c = pick (within (code "0") (code "7") c) (c - code "0") 8
 
 -- what a list of pairs gives for e: the second of the first pair that begins with it, and 0 where none does
 abbrev pub look : List (ℕ × ℕ) → ℕ → ℕ
@@ -27,8 +34,9 @@ look (p ∷ ps) e = pick (eqb e (p .0)) (p .1) (look ps e)
 -- the escapes of one letter: the letter and the byte that it stands for
 unfoldable pub letters : List (ℕ × ℕ)
 letters =
-    (0x22, 0x22) ∷ (0x5C, 0x5C) ∷ (0x27, 0x27) ∷ (0x3F, 0x3F)
-    ∷ (0x61, 0x07) ∷ (0x62, 0x08) ∷ (0x66, 0x0C) ∷ (0x6E, 0x0A) ∷ (0x72, 0x0D) ∷ (0x74, 0x09) ∷ (0x76, 0x0B) ∷ []
+    (code "\"", code "\"") ∷ (code "\\", code "\\") ∷ (code "'", code "'") ∷ (code "?", code "?")
+    ∷ (code "a", 0x07) ∷ (code "b", 0x08) ∷ (code "f", 0x0C) ∷ (code "n", code "\n")
+    ∷ (code "r", code "\r") ∷ (code "t", code "\t") ∷ (code "v", 0x0B) ∷ []
 
 -- the byte that a letter stands for, and 0 where it is none of them
 unfoldable pub simpleOf : ℕ → ℕ
@@ -43,12 +51,12 @@ bytesPiece l used = piece.Bytes (length l) (byte l 0) (byte l 1) (byte l 2) (byt
 unfoldable pub hexPiece : List ℕ → Piece
 hexPiece l =
     pick (ltb (hexOf (byte l 2)) 16 && ltb (hexOf (byte l 3)) 16) (piece.Bytes 1 (hexOf (byte l 2) * 16 + hexOf (byte l 3)) 0 0 0 4)
-    (piece.Bad reasons.badX 0x78 2)
+    (piece.Bad reasons.badX (code "x") 2)
 
 -- a digit from 0 to 3 and two octal digits, by `read_oct_rest`
 unfoldable pub octPiece : ℕ → List ℕ → Piece
 octPiece first l =
-    pick (ltb (octOf (byte l 2)) 8 && ltb (octOf (byte l 3)) 8) (piece.Bytes 1 ((first - 48) * 64 + octOf (byte l 2) * 8 + octOf (byte l 3)) 0 0 0 4)
+    pick (ltb (octOf (byte l 2)) 8 && ltb (octOf (byte l 3)) 8) (piece.Bytes 1 ((first - code "0") * 64 + octOf (byte l 2) * 8 + octOf (byte l 3)) 0 0 0 4)
     (piece.Bad reasons.badOctal first 2)
 
 -- how many of the first n bytes are digits before the first that is none
@@ -75,16 +83,16 @@ codePiece n reason letter l =
 unfoldable pub escapePiece : List ℕ → Piece
 escapePiece l =
     pick (eqb (simpleOf (byte l 1)) 0)
-    (pick (eqb (byte l 1) 0x78) (hexPiece l)
-    (pick (eqb (byte l 1) 0x75) (codePiece 4 reasons.badU 0x75 (drop 2 l))
-    (pick (eqb (byte l 1) 0x55) (codePiece 8 reasons.badCapitalU 0x55 (drop 2 l))
-    (pick (within 48 51 (byte l 1)) (octPiece (byte l 1) l) (piece.Bad reasons.unknownEscape (byte l 1) 2)))))
+    (pick (eqb (byte l 1) (code "x")) (hexPiece l)
+    (pick (eqb (byte l 1) (code "u")) (codePiece 4 reasons.badU (code "u") (drop 2 l))
+    (pick (eqb (byte l 1) (code "U")) (codePiece 8 reasons.badCapitalU (code "U") (drop 2 l))
+    (pick (within (code "0") (code "3") (byte l 1)) (octPiece (byte l 1) l) (piece.Bad reasons.unknownEscape (byte l 1) 2)))))
     (piece.Bytes 1 (simpleOf (byte l 1)) 0 0 0 2)
 
 -- what stands at the front of the rest of a literal, by the loop of `lex_string`
 unfoldable pub pieceOf : List ℕ → Piece
 pieceOf [] = piece.Open
 pieceOf (c ∷ l) =
-    pick (eqb c 0x22) piece.Close
-    (pick (eqb c 0x0A) piece.Newline
-    (pick (eqb c 0x5C) (pick (eqb (length l) 0) piece.Cut (escapePiece (c ∷ l))) (piece.Bytes 1 c 0 0 0 1)))
+    pick (eqb c (code "\"")) piece.Close
+    (pick (eqb c (code "\n")) piece.Newline
+    (pick (eqb c (code "\\")) (pick (eqb (length l) 0) piece.Cut (escapePiece (c ∷ l))) (piece.Bytes 1 c 0 0 0 1)))

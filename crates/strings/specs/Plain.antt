@@ -1,9 +1,10 @@
--- Parts of a string literal that are read at once: bytes that stand for themselves, for `lex_string` pushes every byte that is no quote, newline
--- or backslash, and escapes of one letter.
+-- Helper definitions, for proofs and inner contracts alone: parts of a string literal that are read at once, bytes that stand for themselves, for
+-- `lex_string` pushes every byte that is no quote, newline or backslash, and escapes of one letter.
 use mathlib.Core.Path.{_≡_}
 use mathlib.Core.Bool.{Bool, not, _&&_}
 use mathlib.Core.List.{List, [], _∷_}
 use Prim.Native.Nat.{ℕ, _+_, _≤_}
+use Prim.Native.Char.{code}
 use lib.Dec.{eqb}
 use lib.ListN.{length, drop}
 use Rattle.base.specs.Choice.{pick}
@@ -12,9 +13,11 @@ use Rattle.lexeme.specs.declared.Mode.{Mode}
 use Rattle.strings.specs.Piece.{simpleOf}
 use Rattle.strings.specs.Decode.{prepend, decode}
 
+-- Types that other files explain: `Mode` in lexeme/specs/Lexeme.antt.
+
 -- no quote, newline or backslash
 unfoldable pub isOrdinary : ℕ → Bool
-isOrdinary b = (not (eqb b 0x22) && not (eqb b 0x0A)) && not (eqb b 0x5C)
+isOrdinary b = (not (eqb b (code "\"")) && not (eqb b (code "\n"))) && not (eqb b (code "\\"))
 
 -- the same as the test of a run; what follows the byte does not count
 abbrev pub inOrdinary : ℕ → ℕ → Bool
@@ -22,7 +25,7 @@ inOrdinary a b = isOrdinary a
 
 -- the byte that a backslash and a letter stand for, and 0 where two bytes are no such escape
 unfoldable pub simpleAt : ℕ → ℕ → ℕ
-simpleAt x y = pick (eqb x 0x5C) (simpleOf y) 0
+simpleAt x y = pick (eqb x (code "\\")) (simpleOf y) 0
 
 -- the bytes that the escapes of one letter at the front stand for
 unfoldable pub simpleBytes : List ℕ → List ℕ

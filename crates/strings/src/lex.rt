@@ -7,7 +7,8 @@ ghost use lib.Seq.{sets};
 ghost use Rattle.utf8.specs.Grammar.{Octets};
 ghost use Rattle.lexeme.specs.declared.Mode.the-variants as M;
 ghost use Rattle.strings.specs.Decode.{letterDetail};
-ghost use Rattle.strings.specs.Literal.{literalOf, endReason, endDetail, endOf, endNotes, lexString, Sized};
+ghost use Rattle.strings.specs.Literal.{literalOf, endReason, endDetail, literalEnd, endNotes, lexString};
+ghost use Rattle.strings.specs.Helpers.{Sized};
 use crate::literal::End;
 use crate::literal::Step;
 use crate::literal::measure_literal;
@@ -59,7 +60,7 @@ fn end_detail(end: End) -> usize
 
 // Where an ending leaves the token's end: an unknown escape's after the character that its letter begins.
 fn end_of(s: &[u8], end: End, stop: usize) -> usize
-    ensures { λ r. ⌜ r ≡ endOf (now (s .entry)) end stop ⌝ }
+    ensures { λ r. ⌜ r ≡ literalEnd (now (s .entry)) end stop ⌝ }
 {
     match end {
         End::Closed => stop,

@@ -1,6 +1,6 @@
 // String literals: one step of a literal, measuring it, writing what it stands for, and its reports.
-pub mod digit;
+mod digit;
 pub mod lex;
-pub mod literal;
+mod literal;
 pub mod notes;
-pub mod piece;
+mod piece;

@@ -6,7 +6,8 @@ ghost use lib.Dec.{eqb};
 ghost use lib.ListN.{length};
 ghost use lib.Seq.{sets};
 ghost use Rattle.base.specs.Choice.{pick};
-ghost use Rattle.token.specs.Place.{placeAt, Walkable};
+ghost use Rattle.token.specs.Place.{placeAt};
+ghost use Rattle.token.specs.Helpers.{Walkable, lastReason};
 ghost use Rattle.token.specs.Reason as reasons;
 ghost use Rattle.token.specs.Layout.{reportWidth, reportNumbers};
 ghost use Rattle.lexeme.specs.Lexeme.{noteAtStart};
@@ -14,7 +15,7 @@ ghost use Rattle.lexeme.specs.Reports.{reportAt};
 ghost use Rattle.lexeme.specs.declared.Mode.the-variants as M;
 ghost use Rattle.strings.specs.Decode.{letterDetail};
 ghost use Rattle.strings.specs.Literal.{endNotes};
-ghost use Rattle.strings.specs.Notes.{stringNumbers, NotesFit};
+ghost use Rattle.strings.specs.Helpers.{stringNumbers, NotesFit};
 use crate::lex::letter_detail;
 use crate::literal::End;
 use crate::literal::Step;
@@ -29,7 +30,7 @@ use token::reason;
 
 // The reason of the report that a tolerant ending makes, or none.
 fn end_report(end: End) -> usize
-    ensures { λ r. ⌜ (endNotes end ≡ pick (eqb r reasons.none) [] (noteAtStart r ∷ [])) × (r ≤ reasons.last) ⌝ }
+    ensures { λ r. ⌜ (endNotes end ≡ pick (eqb r reasons.none) [] (noteAtStart r ∷ [])) × (r ≤ lastReason) ⌝ }
 {
     match end {
         End::Closed => reason::NONE,

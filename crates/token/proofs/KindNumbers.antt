@@ -1,5 +1,4 @@
--- Each kind's number is at most the last, and no two kinds have one number: `kindAt` is a left inverse of `kindNumber`. By cases on the kind.
--- Assumes nothing.
+-- For `lexer`, `reading` and `listing_lines`: a kind's number is at most the last, and says the kind. By cases on the kind. Assumes nothing.
 use mathlib.Core.Path.{_≡_, refl, sym, ap, _∙_}
 use mathlib.Core.List.{List, [], _∷_}
 use Prim.Native.Nat.{ℕ, _≤_}
@@ -13,35 +12,6 @@ use Rattle.token.specs.declared.kind.TokenKind.the-variants as K
 abbrev pub IsEof : TokenKind → Type 0
 IsEof k = kindNumber k ≡ eofNumber
 
-pub number-le : (k : TokenKind) → kindNumber k ≤ lastNumber
-unfolding kindNumber
-number-le K.Eof = lit≤ tt
-number-le K.Illegal = lit≤ tt
-number-le K.Newline = lit≤ tt
-number-le K.Comment = lit≤ tt
-number-le K.Ident = lit≤ tt
-number-le K.String = lit≤ tt
-number-le K.Int = lit≤ tt
-number-le K.Float = lit≤ tt
-number-le K.Bool = lit≤ tt
-number-le K.Null = lit≤ tt
-number-le K.Bytes = lit≤ tt
-number-le K.Timestamp = lit≤ tt
-number-le K.Duration = lit≤ tt
-number-le K.LBrace = lit≤ tt
-number-le K.RBrace = lit≤ tt
-number-le K.LBracket = lit≤ tt
-number-le K.RBracket = lit≤ tt
-number-le K.LParen = lit≤ tt
-number-le K.RParen = lit≤ tt
-number-le K.Equals = lit≤ tt
-number-le K.Colon = lit≤ tt
-number-le K.Comma = lit≤ tt
-number-le K.AtType = lit≤ tt
-number-le K.AtDirective = lit≤ tt
-number-le K.AtDataset = lit≤ tt
-number-le K.AtProto = lit≤ tt
-
 -- the kinds in the order of their numbers
 abbrev kinds : List TokenKind
 kinds =
@@ -49,37 +19,40 @@ kinds =
     ∷ K.LBrace ∷ K.RBrace ∷ K.LBracket ∷ K.RBracket ∷ K.LParen ∷ K.RParen ∷ K.Equals ∷ K.Colon ∷ K.Comma ∷ K.AtType ∷ K.AtDirective
     ∷ K.AtDataset ∷ K.AtProto ∷ []
 
-abbrev pub kindAt : ℕ → TokenKind
+abbrev kindAt : ℕ → TokenKind
 kindAt n = getD kinds n K.Eof
 
-number-at : (k : TokenKind) → kindAt (kindNumber k) ≡ k
+both : (k : TokenKind) → (kindNumber k ≤ lastNumber) × (kindAt (kindNumber k) ≡ k)
 unfolding kindNumber
-number-at K.Eof = refl
-number-at K.Illegal = refl
-number-at K.Newline = refl
-number-at K.Comment = refl
-number-at K.Ident = refl
-number-at K.String = refl
-number-at K.Int = refl
-number-at K.Float = refl
-number-at K.Bool = refl
-number-at K.Null = refl
-number-at K.Bytes = refl
-number-at K.Timestamp = refl
-number-at K.Duration = refl
-number-at K.LBrace = refl
-number-at K.RBrace = refl
-number-at K.LBracket = refl
-number-at K.RBracket = refl
-number-at K.LParen = refl
-number-at K.RParen = refl
-number-at K.Equals = refl
-number-at K.Colon = refl
-number-at K.Comma = refl
-number-at K.AtType = refl
-number-at K.AtDirective = refl
-number-at K.AtDataset = refl
-number-at K.AtProto = refl
+both K.Eof = (lit≤ tt, refl)
+both K.Illegal = (lit≤ tt, refl)
+both K.Newline = (lit≤ tt, refl)
+both K.Comment = (lit≤ tt, refl)
+both K.Ident = (lit≤ tt, refl)
+both K.String = (lit≤ tt, refl)
+both K.Int = (lit≤ tt, refl)
+both K.Float = (lit≤ tt, refl)
+both K.Bool = (lit≤ tt, refl)
+both K.Null = (lit≤ tt, refl)
+both K.Bytes = (lit≤ tt, refl)
+both K.Timestamp = (lit≤ tt, refl)
+both K.Duration = (lit≤ tt, refl)
+both K.LBrace = (lit≤ tt, refl)
+both K.RBrace = (lit≤ tt, refl)
+both K.LBracket = (lit≤ tt, refl)
+both K.RBracket = (lit≤ tt, refl)
+both K.LParen = (lit≤ tt, refl)
+both K.RParen = (lit≤ tt, refl)
+both K.Equals = (lit≤ tt, refl)
+both K.Colon = (lit≤ tt, refl)
+both K.Comma = (lit≤ tt, refl)
+both K.AtType = (lit≤ tt, refl)
+both K.AtDirective = (lit≤ tt, refl)
+both K.AtDataset = (lit≤ tt, refl)
+both K.AtProto = (lit≤ tt, refl)
+
+pub number-le : (k : TokenKind) → kindNumber k ≤ lastNumber
+number-le k = both k .0
 
 pub number-kind : (k : TokenKind) (n : ℕ) → kindNumber k ≡ n → k ≡ kindAt n
-number-kind k n e = sym (number-at k) ∙ ap kindAt e
+number-kind k n e = sym (both k .1) ∙ ap kindAt e

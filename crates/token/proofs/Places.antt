@@ -1,4 +1,4 @@
--- Places as a fold over the bytes before them: two lists one after the other, one byte more, bounds, lines and columns, whole lines.
+-- For `walk` and the crates above: a place is a fold over the bytes before it. Steps, bounds, lines and columns, whole lines, flat runs.
 -- By induction on the list. Assumes nothing.
 use mathlib.Core.Path.{_≡_, refl, sym, ap, _∙_}
 use mathlib.Core.Bool.{Bool, true, false, not}
@@ -18,11 +18,12 @@ use Rattle.base.specs.Blocks.{other}
 use Rattle.base.proofs.Tests.{true-false}
 use Rattle.base.proofs.Reaches.{reach-le, reach-ge, reach-all, reach-fails}
 use Rattle.limits.specs.Limits.{maxMessageSize}
-use Rattle.token.specs.Place.{firstPlace, newline, stepPlace, placeAfter, placeAt, newlines, Flat, sinceNewline, Bounded, Steppable, Walkable}
+use Rattle.token.specs.Place.{firstPlace, newline, stepPlace, placeAfter, placeAt, newlines, sinceNewline}
+use Rattle.token.specs.Helpers.{Flat, Bounded, Steppable, Walkable}
 use Rattle.token.specs.declared.place.Place.{Place}
 
 -- the place after two lists is the place after the second from the place after the first
-pub after-append : (p : Place) (a b : List ℕ) → placeAfter p (a ++ b) ≡ placeAfter (placeAfter p a) b
+after-append : (p : Place) (a b : List ℕ) → placeAfter p (a ++ b) ≡ placeAfter (placeAfter p a) b
 after-append p [] b = refl
 after-append p (x ∷ a) b = after-append (stepPlace p x) a b
 
@@ -33,17 +34,17 @@ pub record Moved (p q : Place) (n : ℕ) : Type 0 where
   pub column : q .column ≤ p .column + n
 
 -- the place after a byte, newline or not
-abbrev pub stepBy : Bool → Place → Place
+abbrev stepBy : Bool → Place → Place
 stepBy x p =
     pick x (record { offset = p .offset + 1; line = p .line + 1; column = 1 })
     (record { offset = p .offset + 1; line = p .line; column = p .column + 1 })
 
 moved-more : (x : Bool) (p q : Place) (n : ℕ) → Moved (stepBy x p) q n → Moved p q (suc n)
-moved-more true p q n w = record { offset = omega arith; line = omega arith; column = omega arith }
-moved-more false p q n w = record { offset = omega arith; line = omega arith; column = omega arith }
+moved-more true p q n w = omega arith
+moved-more false p q n w = omega arith
 
-pub moved : (p : Place) (l : List ℕ) → Moved p (placeAfter p l) (length l)
-moved p [] = record { offset = omega arith; line = omega arith; column = omega arith }
+moved : (p : Place) (l : List ℕ) → Moved p (placeAfter p l) (length l)
+moved p [] = omega arith
 moved p (b ∷ l) = moved-more (eqb b newline) p (placeAfter (stepPlace p b) l) (length l) (moved (stepPlace p b) l)
 
 -- the line counts the newlines
@@ -51,12 +52,12 @@ line-more : (x : Bool) (p : Place) (n m : ℕ) → m ≡ stepBy x p .line + n �
 line-more true p n m e = omega arith
 line-more false p n m e = omega arith
 
-pub after-line : (p : Place) (l : List ℕ) → placeAfter p l .line ≡ p .line + newlines l
+after-line : (p : Place) (l : List ℕ) → placeAfter p l .line ≡ p .line + newlines l
 after-line p [] = omega arith
 after-line p (b ∷ l) = line-more (eqb b newline) p (newlines l) (placeAfter (stepPlace p b) l .line) (after-line (stepPlace p b) l)
 
 -- the column counts the bytes since the last newline, n of which stand before the list
-pub after-column : (p : Place) (n : ℕ) (l : List ℕ) → p .column ≡ 1 + n → placeAfter p l .column ≡ 1 + sinceNewline n l
+after-column : (p : Place) (n : ℕ) (l : List ℕ) → p .column ≡ 1 + n → placeAfter p l .column ≡ 1 + sinceNewline n l
 after-column p n [] e = e
 after-column p n (b ∷ l) e = go (eqb b newline) (λ q m h. after-column q m l h)
   where
@@ -111,8 +112,7 @@ flat-from s i (suc n) h f =
     let e : i + n + 1 ≡ i + suc n = omega arith in
     let b : eqb (byte s (i + n)) newline ≡ false = ne-eqb (byte s (i + n)) newline (λ z. f n (omega arith) (getD-drop i s n 0 ∙ z)) in
     let g : placeAt s (i + n) ≡ along p n = flat-from s i n (omega arith) (λ j l. f j (omega arith)) in
-    let d : placeAt s (i + n + 1) ≡ stepPlace (along p n) (byte s (i + n)) = place-next s (i + n) (omega arith) ∙ ap (λ (q : Place). stepPlace q (byte s (i + n))) g in
-    rw (e, b, o, c) at d
+    rw (e, g, b, o, c) at (place-next s (i + n) (omega arith))
 
 -- up to the end of its line
 line-along : (s : List ℕ) (i n : ℕ) → i ≤ length s → i + n ≤ reach (other newline) s i → placeAt s (i + n) ≡ along (placeAt s i) n

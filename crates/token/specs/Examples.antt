@@ -1,13 +1,14 @@
 -- A text with the places of its offsets written out by hand: lines and columns, which the reader and demand 3 share.
 use mathlib.Core.Path.{_≡_, refl}
-use mathlib.Core.List.{List, [], _∷_, map}
+use mathlib.Core.List.{List, [], _∷_, _++_, map}
 use Prim.Native.Nat.{ℕ}
 use lib.ListN.{take}
+use Rattle.base.specs.Characters.{ascii}
 use Rattle.token.specs.Place.{placeAt, newlines, sinceNewline}
 
 -- `a`, carriage return, newline, `é`, newline, newline, `c`
 abbrev text : List ℕ
-text = 97 ∷ 13 ∷ 10 ∷ 195 ∷ 169 ∷ 10 ∷ 10 ∷ 99 ∷ []
+text = ascii "a\r\n" ++ (0xC3 ∷ 0xA9 ∷ ascii "\n\nc")
 
 -- an offset, its line and column, the newlines before it, and the bytes since the last of those
 pub record Case : Type 0 where

@@ -1,9 +1,11 @@
 -- The numbers of the kinds of tokens.
-use mathlib.Core.Bool.{Bool, not, _||_}
+use mathlib.Core.Bool.{Bool}
 use Prim.Native.Nat.{ℕ}
 use lib.Dec.{eqb}
 use Rattle.token.specs.declared.kind.TokenKind.{TokenKind}
 use Rattle.token.specs.declared.kind.TokenKind.the-variants as K
+
+-- Types of the code (src/kind.rt). `TokenKind`: the kinds of token.rs, in its order.
 
 -- the numbers of the kinds that are asked for by name
 abbrev pub eofNumber : ℕ
@@ -64,24 +66,5 @@ kindNumber K.AtProto = lastNumber
 abbrev pub isEof : TokenKind → Bool
 isEof k = eqb (kindNumber k) eofNumber
 
-abbrev pub isIllegal : TokenKind → Bool
-isIllegal k = eqb (kindNumber k) illegalNumber
-
-abbrev pub isNewline : TokenKind → Bool
-isNewline k = eqb (kindNumber k) newlineNumber
-
-abbrev pub isComment : TokenKind → Bool
-isComment k = eqb (kindNumber k) commentNumber
-
 abbrev pub isString : TokenKind → Bool
 isString k = eqb (kindNumber k) stringNumber
-
-abbrev pub isBytes : TokenKind → Bool
-isBytes k = eqb (kindNumber k) bytesNumber
-
-abbrev pub isDuration : TokenKind → Bool
-isDuration k = eqb (kindNumber k) durationNumber
-
--- the kinds whose tokens have no newline in any text: all but Illegal, Newline, Comment, String and Bytes
-unfoldable pub onOneLine : TokenKind → Bool
-onOneLine k = not ((((isIllegal k || isNewline k) || isComment k) || isString k) || isBytes k)

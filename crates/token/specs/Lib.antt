@@ -3,3 +3,4 @@ pub mod Reason
 pub mod Place
 pub mod Layout
 pub mod Examples
+pub mod Helpers

@@ -95,10 +95,6 @@ bytesEndedAtNewline = 20
 abbrev pub lastIllegal : ℕ
 lastIllegal = badDuration
 
--- the last of all: no report has a greater one
-abbrev pub last : ℕ
-last = bytesEndedAtNewline
-
 -- the reasons of Illegal tokens
 abbrev pub ofIllegal : ℕ → Bool
 ofIllegal r = within unexpectedCharacter lastIllegal r

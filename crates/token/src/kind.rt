@@ -1,7 +1,8 @@
 // The kinds of tokens, in the order of token.rs.
 ghost use mathlib.Core.Path.{_≡_};
 ghost use lib.Dec.{eqb};
-ghost use Rattle.token.specs.Kind.{kindNumber, isEof, isIllegal, isNewline, isComment, isString, isBytes, onOneLine};
+ghost use Rattle.token.specs.Kind.{kindNumber, isEof, isString};
+ghost use Rattle.token.specs.Helpers.{isIllegal, isNewline, isComment, isBytes, onOneLine};
 
 // The numbers of the kinds that are asked for by name.
 pub const EOF: usize = 0;
@@ -95,7 +96,7 @@ impl TokenKind {
         self.has_number(EOF)
     }
 
-    pub fn is_illegal(self) -> bool
+    fn is_illegal(self) -> bool
         ensures { λ r. ⌜ r ≡ isIllegal self ⌝ }
     {
         self.has_number(ILLEGAL)
@@ -107,7 +108,7 @@ impl TokenKind {
         self.has_number(NEWLINE)
     }
 
-    pub fn is_comment(self) -> bool
+    fn is_comment(self) -> bool
         ensures { λ r. ⌜ r ≡ isComment self ⌝ }
     {
         self.has_number(COMMENT)
@@ -119,7 +120,7 @@ impl TokenKind {
         self.has_number(STRING)
     }
 
-    pub fn is_bytes(self) -> bool
+    fn is_bytes(self) -> bool
         ensures { λ r. ⌜ r ≡ isBytes self ⌝ }
     {
         self.has_number(BYTES)

@@ -1,6 +1,7 @@
 // The numbers of a token record and of a report, in their order.
 ghost use mathlib.Core.Path.{_≡_};
-ghost use Rattle.token.specs.Layout.{recordNumbers, reportNumbers, RecordFits, ReportFits};
+ghost use Rattle.token.specs.Layout.{recordNumbers, reportNumbers};
+ghost use Rattle.token.specs.Helpers.{RecordFits, ReportFits};
 
 // How many numbers a token record has.
 pub const RECORD_WIDTH: usize = 12;

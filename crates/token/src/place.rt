@@ -1,6 +1,7 @@
 // Places in a text.
 ghost use mathlib.Core.Path.{_≡_};
-ghost use Rattle.token.specs.Place.{firstPlace, stepPlace, placeAt, Steppable, Walkable};
+ghost use Rattle.token.specs.Place.{firstPlace, stepPlace, placeAt};
+ghost use Rattle.token.specs.Helpers.{Steppable, Walkable};
 
 // A byte's offset, and the line and the column at which it stands. Columns count bytes.
 pub struct Place {

@@ -8,7 +8,8 @@ use lib.ListN.{drop, set}
 use Rattle.base.specs.Bytes.{sameBytes}
 use Rattle.token.specs.Layout.{recordWidth}
 use Rattle.token_file.specs.Rules.{rowAt, rowsOf, naturalRow, naturalRows, rowOk, rowsOk, rowsNumbers}
-use Rattle.token_file.specs.Format.{little, unlittle, version1, rowWidth, rowBytes, rowsBytes, header, fileOf, fileWidth, bytesRow, bytesRows, fileCount, fileRows, framed}
+use Rattle.token_file.specs.Format.{little, version1, rowWidth, rowBytes, rowsBytes, header, fileOf, fileWidth}
+use Rattle.token_file.specs.Format.{unlittle, bytesRow, bytesRows, fileCount, fileRows, framed}
 use Rattle.token_file.specs.Calls.{recordsOk, writeAnswer, readAnswer}
 use Rattle.token_file.specs.declared.write.Written.the-variants as written
 use Rattle.token_file.specs.declared.read.Loaded.the-variants as loaded

@@ -1,16 +1,16 @@
-pub mod Numbers
+mod Numbers
 pub mod Signs
-pub mod Rows
-pub mod Pieces
-pub mod Judging
-pub mod Storing
-pub mod Frames
-pub mod Writing
-pub mod Reading
-pub mod RulesPlain
-pub mod RoundRows
-pub mod RoundFiles
-pub mod Refusals
-pub mod RoundCalls
-pub mod Examples
-pub mod Uses
+mod Rows
+mod Pieces
+mod Judging
+mod Storing
+mod Frames
+mod Writing
+mod Reading
+mod RulesPlain
+mod RoundRows
+mod RoundFiles
+mod Refusals
+mod RoundCalls
+mod Examples
+pub mod AnswerBounds

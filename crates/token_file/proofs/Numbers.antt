@@ -1,5 +1,5 @@
--- Numbers as bytes, lowest first: how long they are, that each way undoes the other, and how large they get. By induction on the width or the
--- list. Assumes nothing.
+-- For `put_little`, `get_little` and the round trips: numbers as bytes, lowest first. How long they are, how large, and that each way undoes the
+-- other. By induction on the width or the list. Assumes nothing.
 use mathlib.Core.Path.{_≡_, refl, ap}
 use mathlib.Core.List.{List, [], _∷_}
 use Prim.Native.Nat.{ℕ, zero, suc, _+_, _*_, _/_, _%_, _^_, _≤_, _<_, _-_}
@@ -7,13 +7,13 @@ use native.Mathlib.Nat.{pow-succ', pow-zero, pow-le-pow-right, add-zero, sub-zer
 use native.Mathlib.Omega.{arith}
 use lib.ListN.{length, getD, take, drop, set}
 use lib.Seq.{sets, drop-cons, getD-drop}
+use Rattle.base.specs.Bytes.{AreBytes}
 use Rattle.token_file.specs.Format.{little, unlittle, numberAt}
-use Rattle.token_file.specs.Fits.{Bytes}
 
-pub bytes-drop : (n : ℕ) (l : List ℕ) → Bytes l → Bytes (drop n l)
+pub bytes-drop : (n : ℕ) (l : List ℕ) → AreBytes l → AreBytes (drop n l)
 bytes-drop n l h k = rw getD-drop (h (n + k))
 
-pub bytes-take : (n : ℕ) (l : List ℕ) → Bytes l → Bytes (take n l)
+pub bytes-take : (n : ℕ) (l : List ℕ) → AreBytes l → AreBytes (take n l)
 bytes-take zero l h k = omega arith
 bytes-take (suc n) [] h k = omega arith
 bytes-take (suc n) (b ∷ l) h zero = h 0
@@ -27,16 +27,14 @@ length-little (suc w) n = ap suc (length-little w (n / 256))
 pub unlittle-little : (w n : ℕ) → n < 256 ^ w → unlittle (little w n) ≡ n
 unfolding little unlittle
 unlittle-little zero n h = omega (arith, pow-zero 256)
-unlittle-little (suc w) n h =
-    let e = unlittle-little w (n / 256) (omega (arith, pow-succ' 256 w)) in
-    omega arith
+unlittle-little (suc w) n h = let e = unlittle-little w (n / 256) (omega (arith, pow-succ' 256 w)) in omega arith
 
-pub unlittle-lt : (l : List ℕ) → Bytes l → unlittle l < 256 ^ length l
+pub unlittle-lt : (l : List ℕ) → AreBytes l → unlittle l < 256 ^ length l
 unfolding unlittle
 unlittle-lt [] h = omega (arith, pow-zero 256)
 unlittle-lt (b ∷ l) h = omega (arith, h 0, unlittle-lt l (λ k. h (suc k)), pow-succ' 256 (length l))
 
-pub little-unlittle : (l : List ℕ) → Bytes l → little (length l) (unlittle l) ≡ l
+pub little-unlittle : (l : List ℕ) → AreBytes l → little (length l) (unlittle l) ≡ l
 unfolding little unlittle
 little-unlittle [] h = refl
 little-unlittle (b ∷ l) h =
@@ -58,7 +56,8 @@ module _ (out : List ℕ) (at width k rest : ℕ) where
 pub put-start : (out : List ℕ) (at width n : ℕ) → putting out at width 0 n ≡ sets out at (little width n)
 put-start out at width n = simp (add-zero, sub-zero)
 
-pub put-turn : (out : List ℕ) (at width k rest : ℕ) → k < width → putting (set out (at + k) (rest % 256)) at width (k + 1) (rest / 256) ≡ putting out at width k rest
+pub put-turn : (out : List ℕ) (at width k rest : ℕ) → k < width
+    → putting (set out (at + k) (rest % 256)) at width (k + 1) (rest / 256) ≡ putting out at width k rest
 unfolding little
 put-turn out at width k rest h =
     let e₁ : width - k ≡ suc (width - (k + 1)) = omega arith in
@@ -67,9 +66,7 @@ put-turn out at width k rest h =
 
 pub put-end : (out : List ℕ) (at width k rest : ℕ) → width ≤ k → putting out at width k rest ≡ out
 unfolding little
-put-end out at width k rest h =
-    let e : width - k ≡ 0 = omega arith in
-    rw e
+put-end out at width k rest h = let e : width - k ≡ 0 = omega arith in rw e
 
 -- ---- the loop that reads a number: from the highest byte down
 
@@ -80,7 +77,7 @@ module _ (file : List ℕ) (at width k n : ℕ) where
     pub value : n ≡ numberAt file (at + k) (width - k)
     pub small : n < 256 ^ (width - k)
 
-pub number-cons : (l : List ℕ) (i w : ℕ) → i < length l → numberAt l i (suc w) ≡ getD l i 0 + 256 * numberAt l (suc i) w
+number-cons : (l : List ℕ) (i w : ℕ) → i < length l → numberAt l i (suc w) ≡ getD l i 0 + 256 * numberAt l (suc i) w
 unfolding unlittle
 number-cons l i w h = rw (drop-cons l i 0 h)
 

@@ -1,5 +1,5 @@
--- Lists that are taken apart in pieces, as records are into rows and bytes into rows: the rows from a place on are the row there and the rows from
--- the next place on. And how long what is made of rows is. For any layout. Assumes nothing.
+-- For the loops over rows and the round trips: the rows of a list from a place on are the row there and the rows from the next place on. And how long
+-- what is made of rows is. By induction on the count or the rows. Any layout. Assumes nothing.
 use mathlib.Core.Path.{_≡_, refl, ap, _∙_}
 use mathlib.Core.Bool.{_&&_}
 use mathlib.Core.List.{List, [], _∷_}
@@ -34,7 +34,8 @@ pub natural-turn : (l : List ℤ) (at left : ℕ) → 0 < left
 unfolding naturalRows
 natural-turn = turn naturalRows (λ l b. naturalRow l && b) recordWidth (λ n l. refl)
 
-pub bytes-turn : (y : Layout) (l : List ℕ) (at left : ℕ) → 0 < left → bytesRows y left (drop at l) ≡ bytesRow y (drop at l) ∷ bytesRows y (left - 1) (drop (at + rowWidth y) l)
+pub bytes-turn : (y : Layout) (l : List ℕ) (at left : ℕ) → 0 < left
+    → bytesRows y left (drop at l) ≡ bytesRow y (drop at l) ∷ bytesRows y (left - 1) (drop (at + rowWidth y) l)
 unfolding bytesRows
 bytes-turn y = turn (bytesRows y) (λ l rs. bytesRow y l ∷ rs) (rowWidth y) (λ n l. refl)
 
@@ -67,6 +68,4 @@ numbers-length (r ∷ rs) = omega (arith, length-append (rowNumbers r) (rowsNumb
 -- one piece of the rows that are left
 pub width-turn : (w left : ℕ) → 0 < left → w * left ≡ w * (left - 1) + w
 width-turn w zero h = absurd (not-suc-le-zero h)
-width-turn w (suc n) h =
-    let e : suc n - 1 ≡ n = omega arith in
-    rw e (omega (arith, mul-suc w n))
+width-turn w (suc n) h = let e : suc n - 1 ≡ n = omega arith in rw e (omega (arith, mul-suc w n))

@@ -1,5 +1,5 @@
--- Each refusal of the writer and of the reader is given exactly under its condition, the first that holds in the order of the checks. By cases on
--- the tests. Assumes nothing.
+-- For readers: each refusal of the writer and of the reader is given exactly under its condition, the first that holds in the order of the checks.
+-- By cases on the tests. Assumes nothing.
 use mathlib.Core.Path.{_≡_, refl, sym, _∙_}
 use mathlib.Core.Bool.{Bool, true, false, not}
 use mathlib.Core.Logic.{_↔_}
@@ -72,7 +72,9 @@ module _ (records : List ℤ) (count room : ℕ) where
   unfolding writeAnswer
   write-number = go ok long short (fileWidth version1 count)
     where
-      go : (a b d : Bool) (n : ℕ) → writtenNumber (pick a (pick b written.LongColumn (pick d written.NoRoom (written.Bytes n))) written.BadRecords) ≡ first 8 9 10 (not a) b d
+      go : (a b d : Bool) (n : ℕ)
+          → writtenNumber (pick a (pick b written.LongColumn (pick d written.NoRoom (written.Bytes n))) written.BadRecords)
+          ≡ first 8 9 10 (not a) b d
       go false b d n = refl
       go true true d n = refl
       go true false true n = refl
@@ -83,29 +85,29 @@ module _ (records : List ℤ) (count room : ℕ) where
 
   pub write-8 : (writtenNumber (writeAnswer records count room) ≡ 8) ↔ (recordsOk records count ≡ false)
   write-8 = (
-    λ e. not-true ok (at-first apart (not ok) long short (sym write-number ∙ e)),
+    λ e. not-true _ (at-first apart (not ok) long short (sym write-number ∙ e)),
     λ k. write-number ∙ rw k,
   )
 
   pub write-9 : (writtenNumber (writeAnswer records count room) ≡ 9)
       ↔ ((recordsOk records count ≡ true) × (someAbove largestColumn (rowsOf count records) ≡ true))
   write-9 = (
-    λ e. let t = at-second apart (not ok) long short (sym write-number ∙ e) in (not-false ok (t .0), t .1),
+    λ e. let t = at-second apart (not ok) long short (sym write-number ∙ e) in (not-false _ (t .0), t .1),
     λ k. write-number ∙ rw (k .0, k .1),
   )
 
   pub write-10 : (writtenNumber (writeAnswer records count room) ≡ 10)
       ↔ ((recordsOk records count ≡ true) × (someAbove largestColumn (rowsOf count records) ≡ false) × (room < fileWidth version1 count))
   write-10 = (
-    λ e. let t = at-third apart (not ok) long short (sym write-number ∙ e) in (not-false ok (t .0), t .1, ltb-true room (fileWidth version1 count) (t .2)),
-    λ k. write-number ∙ rw (k .0, k .1, lt-ltb room (fileWidth version1 count) (k .2)),
+    λ e. let t = at-third apart (not ok) long short (sym write-number ∙ e) in (not-false _ (t .0), t .1, ltb-true _ _ (t .2)),
+    λ k. write-number ∙ rw (k .0, k .1, lt-ltb _ _ (k .2)),
   )
 
   pub write-0 : (writtenNumber (writeAnswer records count room) ≡ 0)
       ↔ ((recordsOk records count ≡ true) × (someAbove largestColumn (rowsOf count records) ≡ false) × (fileWidth version1 count ≤ room))
   write-0 = (
-    λ e. let t = at-none apart (not ok) long short (sym write-number ∙ e) in (not-false ok (t .0), t .1, ltb-false room (fileWidth version1 count) (t .2)),
-    λ k. write-number ∙ rw (k .0, k .1, le-ltb room (fileWidth version1 count) (k .2)),
+    λ e. let t = at-none apart (not ok) long short (sym write-number ∙ e) in (not-false _ (t .0), t .1, ltb-false _ _ (t .2)),
+    λ k. write-number ∙ rw (k .0, k .1, le-ltb _ _ (k .2)),
   )
 
 -- ---- the reader: 7, 8, 4
@@ -124,7 +126,9 @@ module _ (file : List ℕ) (room : ℕ) where
   unfolding readAnswer
   read-number = go right kept narrow (fileCount file)
     where
-      go : (a b d : Bool) (n : ℕ) → loadedNumber (pick a (pick b (pick d loaded.NoRoom (loaded.Count n)) loaded.BadRecords) loaded.BadFile) ≡ first 7 8 4 (not a) (not b) d
+      go : (a b d : Bool) (n : ℕ)
+          → loadedNumber (pick a (pick b (pick d loaded.NoRoom (loaded.Count n)) loaded.BadRecords) loaded.BadFile)
+          ≡ first 7 8 4 (not a) (not b) d
       go false b d n = refl
       go true false d n = refl
       go true true true n = refl
@@ -135,26 +139,26 @@ module _ (file : List ℕ) (room : ℕ) where
 
   pub read-7 : (loadedNumber (readAnswer file room) ≡ 7) ↔ (framed version1 file ≡ false)
   read-7 = (
-    λ e. not-true right (at-first apart-read (not right) (not kept) narrow (sym read-number ∙ e)),
+    λ e. not-true _ (at-first apart-read (not right) (not kept) narrow (sym read-number ∙ e)),
     λ k. read-number ∙ rw k,
   )
 
   pub read-8 : (loadedNumber (readAnswer file room) ≡ 8) ↔ ((framed version1 file ≡ true) × (rowsOk reasonOk 0 (fileRows version1 file) ≡ false))
   read-8 = (
-    λ e. let t = at-second apart-read (not right) (not kept) narrow (sym read-number ∙ e) in (not-false right (t .0), not-true kept (t .1)),
+    λ e. let t = at-second apart-read (not right) (not kept) narrow (sym read-number ∙ e) in (not-false _ (t .0), not-true _ (t .1)),
     λ k. read-number ∙ rw (k .0, k .1),
   )
 
   pub read-4 : (loadedNumber (readAnswer file room) ≡ 4)
       ↔ ((framed version1 file ≡ true) × (rowsOk reasonOk 0 (fileRows version1 file) ≡ true) × (room < fileCount file * recordWidth))
   read-4 = (
-    λ e. let t = at-third apart-read (not right) (not kept) narrow (sym read-number ∙ e) in (not-false right (t .0), not-false kept (t .1), ltb-true room (fileCount file * recordWidth) (t .2)),
-    λ k. read-number ∙ rw (k .0, k .1, lt-ltb room (fileCount file * recordWidth) (k .2)),
+    λ e. let t = at-third apart-read (not right) (not kept) narrow (sym read-number ∙ e) in (not-false _ (t .0), not-false _ (t .1), ltb-true _ _ (t .2)),
+    λ k. read-number ∙ rw (k .0, k .1, lt-ltb _ _ (k .2)),
   )
 
   pub read-0 : (loadedNumber (readAnswer file room) ≡ 0)
       ↔ ((framed version1 file ≡ true) × (rowsOk reasonOk 0 (fileRows version1 file) ≡ true) × (fileCount file * recordWidth ≤ room))
   read-0 = (
-    λ e. let t = at-none apart-read (not right) (not kept) narrow (sym read-number ∙ e) in (not-false right (t .0), not-false kept (t .1), ltb-false room (fileCount file * recordWidth) (t .2)),
-    λ k. read-number ∙ rw (k .0, k .1, le-ltb room (fileCount file * recordWidth) (k .2)),
+    λ e. let t = at-none apart-read (not right) (not kept) narrow (sym read-number ∙ e) in (not-false _ (t .0), not-false _ (t .1), ltb-false _ _ (t .2)),
+    λ k. read-number ∙ rw (k .0, k .1, le-ltb _ _ (k .2)),
   )

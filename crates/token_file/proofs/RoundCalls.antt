@@ -1,7 +1,7 @@
--- The two calls undo each other: reading what was written gives back the six kept numbers, and writing what was read gives back the bytes. From the
--- contracts of the calls, and the laws of files. Assumes nothing.
-use mathlib.Core.Path.{_≡_, refl, sym, ap, _∙_}
-use mathlib.Core.Bool.{Bool, true, false}
+-- For readers, and `AnswerBounds`: the two calls undo each other. Reading what was written gives back the six kept numbers, and writing what was read gives
+-- back the bytes. From the contracts of the calls and the laws of files. Assumes nothing.
+use mathlib.Core.Path.{_≡_, sym, ap, _∙_}
+use mathlib.Core.Bool.{true, false}
 use mathlib.Core.List.{List, _++_}
 use Prim.Native.Nat.{ℕ, _*_, _≤_}
 use native.Mathlib.Omega.{arith}
@@ -10,13 +10,13 @@ use lib.IntN.{ℤ}
 use lib.ListN.{length, take, drop, length-append}
 use lib.Seq.{take-at}
 use borrow.Author.Tests.{ltb-false, le-ltb, le-leb}
-use Rattle.base.specs.Choice.{pick}
+use Rattle.base.specs.Bytes.{AreBytes}
+use Rattle.base.proofs.Tests.{pick-first, pick-second, zero-one}
 use Rattle.base.specs.Buffers.{overlay}
 use Rattle.token.specs.Layout.{recordWidth}
 use Rattle.token.specs.Reason.{reasonOk}
 use Rattle.token_file.specs.Rules.{rowsOf, naturalRows, rowsNumbers, rowsOk, largestColumn, someAbove, RowsRules}
 use Rattle.token_file.specs.Format.{version1, fileOf, fileWidth, fileCount, fileRows, framed}
-use Rattle.token_file.specs.Fits.{Bytes}
 use Rattle.token_file.specs.Calls.{recordsOk, writeAnswer, readAnswer, WritesFile, ReadsFile}
 use Rattle.token_file.specs.declared.row.Row.{Row}
 use Rattle.token_file.specs.declared.write.Written.{Written}
@@ -40,18 +40,12 @@ pub record Accepted (records : List ℤ) (count room n : ℕ) : Type 0 where
 
 pub write-accepted : (records : List ℤ) (count room n : ℕ) → written.Bytes n ≡ writeAnswer records count room → Accepted records count room n
 unfolding writeAnswer
-write-accepted records count room n =
-    go (recordsOk records count) (someAbove largestColumn (rowsOf count records)) (ltb room (fileWidth version1 count)) refl refl refl
-  where
-    go : (a b d : Bool) → recordsOk records count ≡ a → someAbove largestColumn (rowsOf count records) ≡ b → ltb room (fileWidth version1 count) ≡ d
-        → written.Bytes n ≡ pick a (pick b written.LongColumn (pick d written.NoRoom (written.Bytes (fileWidth version1 count)))) written.BadRecords → Accepted records count room n
-    go false b d p q s e = let z : _≡_ {A = ℕ} 0 1 = cc in absurd (omega arith)
-    go true true d p q s e = let z : _≡_ {A = ℕ} 0 1 = cc in absurd (omega arith)
-    go true false true p q s e = let z : _≡_ {A = ℕ} 0 1 = cc in absurd (omega arith)
-    go true false false p q s e =
-        let w : n ≡ fileWidth version1 count = cc in
-        let h = ltb-false room (fileWidth version1 count) s in
-        record { rules = p; columns = q; width = w; inside = omega arith }
+write-accepted records count room n e =
+    let a = pick-first (recordsOk records count) (λ p. zero-one (cc)) (sym e) in
+    let b = pick-second (someAbove largestColumn (rowsOf count records)) (λ p. zero-one (cc)) (a .1) in
+    let d = pick-second (ltb room (fileWidth version1 count)) (λ p. zero-one (cc)) (b .1) in
+    let w : n ≡ fileWidth version1 count = cc in
+    record { rules = a .0; columns = b .0; width = w; inside = omega (arith, ltb-false room (fileWidth version1 count) (d .0)) }
 
 pub record Taken (file : List ℕ) (room n : ℕ) : Type 0 where
   pub frame : framed version1 file ≡ true
@@ -61,17 +55,12 @@ pub record Taken (file : List ℕ) (room n : ℕ) : Type 0 where
 
 pub read-accepted : (file : List ℕ) (room n : ℕ) → loaded.Count n ≡ readAnswer file room → Taken file room n
 unfolding readAnswer
-read-accepted file room n = go (framed version1 file) (rowsOk reasonOk 0 (fileRows version1 file)) (ltb room (fileCount file * recordWidth)) refl refl refl
-  where
-    go : (a b d : Bool) → framed version1 file ≡ a → rowsOk reasonOk 0 (fileRows version1 file) ≡ b → ltb room (fileCount file * recordWidth) ≡ d
-        → loaded.Count n ≡ pick a (pick b (pick d loaded.NoRoom (loaded.Count (fileCount file))) loaded.BadRecords) loaded.BadFile → Taken file room n
-    go false b d p q s e = let z : _≡_ {A = ℕ} 0 1 = cc in absurd (omega arith)
-    go true false d p q s e = let z : _≡_ {A = ℕ} 0 1 = cc in absurd (omega arith)
-    go true true true p q s e = let z : _≡_ {A = ℕ} 0 1 = cc in absurd (omega arith)
-    go true true false p q s e =
-        let w : n ≡ fileCount file = cc in
-        let h = ltb-false room (fileCount file * recordWidth) s in
-        record { frame = p; rules = q; count = w; inside = omega arith }
+read-accepted file room n e =
+    let a = pick-first (framed version1 file) (λ p. zero-one (cc)) (sym e) in
+    let b = pick-first (rowsOk reasonOk 0 (fileRows version1 file)) (λ p. zero-one (cc)) (a .1) in
+    let d = pick-second (ltb room (fileCount file * recordWidth)) (λ p. zero-one (cc)) (b .1) in
+    let w : n ≡ fileCount file = cc in
+    record { frame = a .0; rules = b .0; count = w; inside = omega (arith, ltb-false room (fileCount file * recordWidth) (d .0)) }
 
 -- ---- reading what was written
 
@@ -105,7 +94,7 @@ reading-written records count out out′ r n w e tokens tokens′ q v h =
 
 -- ---- writing what was read
 
-module _ (file : List ℕ) (b : Bytes file) (f : framed version1 file ≡ true) (k : rowsOk reasonOk 0 (fileRows version1 file) ≡ true) where
+module _ (file : List ℕ) (b : AreBytes file) (f : framed version1 file ≡ true) (k : rowsOk reasonOk 0 (fileRows version1 file) ≡ true) where
   abbrev rs : List Row
   rs = fileRows version1 file
 
@@ -129,7 +118,8 @@ module _ (file : List ℕ) (b : Bytes file) (f : framed version1 file ≡ true) 
     unfolding recordsOk
     records-again =
         let n : naturalRows (fileCount file) (rowsNumbers rs ++ rest) ≡ true = rw rs-length at (natural-back rs rest) in
-        let l : fileCount file * recordWidth ≤ length (rowsNumbers rs ++ rest) = omega (arith, length-append (rowsNumbers rs) rest, numbers-length rs, rs-length) in
+        let l : fileCount file * recordWidth ≤ length (rowsNumbers rs ++ rest) =
+        omega (arith, length-append (rowsNumbers rs) rest, numbers-length rs, rs-length) in
         rw (le-leb (fileCount file * recordWidth) (length (rowsNumbers rs ++ rest)) l, n, rows-again, k)
 
     pub write-back : (room : ℕ) → length file ≤ room → writeAnswer (rowsNumbers rs ++ rest) (fileCount file) room ≡ written.Bytes (length file)
@@ -139,7 +129,7 @@ module _ (file : List ℕ) (b : Bytes file) (f : framed version1 file ≡ true) 
         rw (records-again, rows-again, rs-short, ← w, le-ltb room (length file) h)
 
 -- what was read, written again, gives the same bytes, and the rest of the buffer is untouched
-pub writing-read : (file : List ℕ) → Bytes file → (tokens tokens′ : List ℤ) (r : Loaded) (n : ℕ) → ReadsFile file tokens r tokens′ → r ≡ loaded.Count n
+pub writing-read : (file : List ℕ) → AreBytes file → (tokens tokens′ : List ℤ) (r : Loaded) (n : ℕ) → ReadsFile file tokens r tokens′ → r ≡ loaded.Count n
     → (out out′ : List ℕ) (q : Written) → WritesFile tokens′ n out q out′ → length file ≤ length out
     → (q ≡ written.Bytes (length file)) × (out′ ≡ overlay file out)
 writing-read file b tokens tokens′ r n w e out out′ q v h =

@@ -1,5 +1,5 @@
--- Files of rows and rows of files, for any layout with room for the numbers: reading what was written gives back the rows, writing what was read
--- gives back the bytes, and no two lists of rows have the same file. Then at version 1. Assumes nothing.
+-- For `RoundCalls`, and readers: for any layout with room for the numbers, then for version 1, reading a written file gives back the rows, writing what
+-- was read gives back the bytes, and no two lists of rows have the same file. Assumes nothing.
 use mathlib.Core.Path.{_≡_, refl, sym, ap, _∙_}
 use mathlib.Core.Bool.{Bool, true, false}
 use mathlib.Core.List.{List, [], _∷_, append-nil}
@@ -9,14 +9,15 @@ use lib.Dec.{ltb, eqb}
 use lib.ListN.{length, take, drop, length-drop, take-append-drop}
 use lib.Seq.{drop-at, take-add, take-all}
 use borrow.Author.Tests.{ltb-false, le-ltb, eqb-true, eqb-false}
-use Rattle.base.specs.Choice.{pick}
-use Rattle.base.proofs.Tests.{true-false}
+use Rattle.base.specs.Bytes.{AreBytes}
+use Rattle.base.proofs.Tests.{true-false, pick-second}
 use Rattle.token.specs.Kind.{eofNumber, illegalNumber}
 use Rattle.token.specs.Reason.{reasonOk}
 use Rattle.token.proofs.Reasons.{reason-plain}
 use Rattle.token_file.specs.Rules.{RowRules, RowsRules, largestColumn, someAbove}
-use Rattle.token_file.specs.Format.{version1, little, numberAt, mark, header, headerWidth, rowWidth, rowsBytes, fileOf, fileWidth, fileCount, fileRows, framed}
-use Rattle.token_file.specs.Fits.{Bytes, RowFits, RowsFit}
+use Rattle.token_file.specs.Format.{version1, little, fileMark, header, headerWidth, rowWidth, rowsBytes, fileOf, fileWidth}
+use Rattle.token_file.specs.Format.{numberAt, fileCount, fileRows, framed}
+use Rattle.token_file.specs.Fits.{RowFits, RowsFit}
 use Rattle.token_file.specs.declared.row.Row.{Row}
 use Rattle.token_file.specs.declared.layout.Layout.{Layout}
 use Rattle.token_file.proofs.Numbers.{bytes-drop, unlittle-little}
@@ -36,7 +37,7 @@ module _ (y : Layout) (rs : List Row) where
   unfolding fileOf header little
   version-back h = unlittle-little 2 (y .version) h
 
-  mark-back : take 3 (fileOf y rs) ≡ mark
+  mark-back : take 3 (fileOf y rs) ≡ fileMark
   unfolding fileOf header
   mark-back = refl
 
@@ -69,7 +70,7 @@ file-injective y rs qs n m f g e = sym (rows-of-file y rs n f) ∙ ap (fileRows 
 
 -- ---- bytes, read and written
 
-module _ (y : Layout) (file : List ℕ) (b : Bytes file) (f : Framed y file) where
+module _ (y : Layout) (file : List ℕ) (b : AreBytes file) (f : Framed y file) where
   header-forth : header y (fileCount file) ≡ take headerWidth file
   unfolding header fileCount
   header-forth =
@@ -110,11 +111,9 @@ below-end r h = go (eqb (r .kind) eofNumber) refl
 
 -- no column is above the bound: the first is not, nor is another
 columns-first : (bound : ℕ) (r : Row) (rs : List Row) → someAbove bound (r ∷ rs) ≡ false → (r .column ≤ bound) × (someAbove bound rs ≡ false)
-columns-first bound r rs = go (ltb bound (r .column)) refl
-  where
-    go : (b : Bool) → ltb bound (r .column) ≡ b → pick b true (someAbove bound rs) ≡ false → (r .column ≤ bound) × (someAbove bound rs ≡ false)
-    go true e t = true-false true refl t
-    go false e t = (ltb-false bound (r .column) e, t)
+columns-first bound r rs t =
+    let c = pick-second (ltb bound (r .column)) (λ e. true-false true refl e) t in
+    (ltb-false bound (r .column) (c .0), c .1)
 
 column-short : (r : Row) → RowFits version1 r → r .column ≤ largestColumn
 unfolding version1
@@ -135,16 +134,7 @@ module _ {ok : ℕ → ℕ → Bool} (small : (k r : ℕ) → ok k r ≡ true �
   row-fits1 : {prev : ℕ} (r : Row) → RowRules ok prev r → r .column ≤ largestColumn → RowFits version1 r
   unfolding version1
   row-fits1 r h s =
-      let e = h .end in
-      let b = below-end r h in
-      record {
-        kind = omega (arith, h .kind);
-        reason = omega (arith, small (r .kind) (r .reason) (h .reason));
-        start = omega arith;
-        end = omega arith;
-        line = omega (arith, h .line .1);
-        column = omega arith;
-      }
+      omega (arith, h .kind, small (r .kind) (r .reason) (h .reason), h .end, below-end r h, h .line .1)
 
   -- then rows that keep the rules, with columns that are not too long, have room in version 1
   pub rows-fit1 : {prev : ℕ} {rs : List Row} → RowsRules ok prev rs → someAbove largestColumn rs ≡ false → RowsFit version1 rs

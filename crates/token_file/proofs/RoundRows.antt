@@ -1,5 +1,5 @@
--- Rows to bytes and back, and bytes to rows and back, for any layout with room for the numbers. A row's number stands after the bytes of the
--- numbers before it. By induction on the rows. Assumes nothing.
+-- For `RoundFiles` and `RoundCalls`: rows to bytes and back, and bytes to rows and back, for any layout with room for the numbers. A row's number
+-- stands after the bytes of the numbers before it. By induction on the rows. Assumes nothing.
 use mathlib.Core.Path.{_≡_, refl, sym, ap, _∙_}
 use mathlib.Core.Bool.{true}
 use mathlib.Core.List.{List, [], _∷_, _++_, append-assoc}
@@ -9,9 +9,10 @@ use native.Mathlib.Omega.{arith}
 use lib.IntN.{ℤ}
 use lib.ListN.{length, take, drop, length-take, length-drop}
 use lib.Seq.{take-at, drop-at, drop-drop, take-add, length-take-le}
+use Rattle.base.specs.Bytes.{AreBytes}
 use Rattle.token_file.specs.Rules.{rowAt, rowsOf, naturalRow, naturalRows, rowsNumbers}
 use Rattle.token_file.specs.Format.{little, numberAt, rowWidth, rowBytes, rowsBytes, bytesRow, bytesRows}
-use Rattle.token_file.specs.Fits.{Bytes, RowFits, RowsFit}
+use Rattle.token_file.specs.Fits.{RowFits, RowsFit}
 use Rattle.token_file.specs.declared.row.Row.{Row}
 use Rattle.token_file.specs.declared.layout.Layout.{Layout}
 use Rattle.token_file.proofs.Numbers.{bytes-drop, bytes-take, length-little, unlittle-little, little-unlittle, unlittle-lt}
@@ -27,45 +28,30 @@ module _ (l : List ℕ) (p w n : ℕ) (rest : List ℕ) (d : drop p l ≡ little
   number-after : drop (p + w) l ≡ rest
   number-after = sym (drop-drop w p l) ∙ rw d (drop-at (little w n) rest w (length-little w n))
 
-module _ (y : Layout) (r : Row) (rest : List ℕ) where
-  -- the row's bytes from each number on
-  abbrev from-column : List ℕ
-  from-column = little (y .column) (r .column) ++ rest
-
-  abbrev from-line : List ℕ
-  from-line = little (y .line) (r .line) ++ from-column
-
-  abbrev from-end : List ℕ
-  from-end = little (y .end) (r .end) ++ from-line
-
-  abbrev from-start : List ℕ
-  from-start = little (y .start) (r .start) ++ from-end
-
-  abbrev from-reason : List ℕ
-  from-reason = little (y .reason) (r .reason) ++ from-start
-
-  from-kind : rowBytes y r ++ rest ≡ little (y .kind) (r .kind) ++ from-reason
-  unfolding rowBytes
-  from-kind = simp append-assoc
-
-  pub row-back : RowFits y r → bytesRow y (rowBytes y r ++ rest) ≡ r
-  unfolding bytesRow
-  row-back h =
-      let l = rowBytes y r ++ rest in
-      let d₁ : drop 0 l ≡ little (y .kind) (r .kind) ++ from-reason = from-kind in
-      let d₂ : drop (y .kind) l ≡ from-reason = rw from-kind (drop-at (little (y .kind) (r .kind)) from-reason (y .kind) (length-little (y .kind) (r .kind))) in
-      let d₃ = number-after l (y .kind) (y .reason) (r .reason) from-start d₂ in
-      let d₄ = number-after l (y .kind + y .reason) (y .start) (r .start) from-end d₃ in
-      let d₅ = number-after l (y .kind + y .reason + y .start) (y .end) (r .end) from-line d₄ in
-      let d₆ = number-after l (y .kind + y .reason + y .start + y .end) (y .line) (r .line) from-column d₅ in
-      λ i. record {
-        kind = number-here l 0 (y .kind) (r .kind) from-reason d₁ (h .kind) i;
-        reason = number-here l (y .kind) (y .reason) (r .reason) from-start d₂ (h .reason) i;
-        start = number-here l (y .kind + y .reason) (y .start) (r .start) from-end d₃ (h .start) i;
-        end = number-here l (y .kind + y .reason + y .start) (y .end) (r .end) from-line d₄ (h .end) i;
-        line = number-here l (y .kind + y .reason + y .start + y .end) (y .line) (r .line) from-column d₅ (h .line) i;
-        column = number-here l (y .kind + y .reason + y .start + y .end + y .line) (y .column) (r .column) rest d₆ (h .column) i;
-      }
+row-back : (y : Layout) (r : Row) (rest : List ℕ) → RowFits y r → bytesRow y (rowBytes y r ++ rest) ≡ r
+unfolding rowBytes bytesRow
+row-back y r rest h =
+    let l = rowBytes y r ++ rest in
+    -- the row's bytes from each number on
+    let column = little (y .column) (r .column) ++ rest in
+    let line = little (y .line) (r .line) ++ column in
+    let end = little (y .end) (r .end) ++ line in
+    let start = little (y .start) (r .start) ++ end in
+    let reason = little (y .reason) (r .reason) ++ start in
+    let d₁ : drop 0 l ≡ little (y .kind) (r .kind) ++ reason = simp append-assoc in
+    let d₂ : drop (y .kind) l ≡ reason = rw d₁ (drop-at (little (y .kind) (r .kind)) reason (y .kind) (length-little (y .kind) (r .kind))) in
+    let d₃ = number-after l (y .kind) (y .reason) (r .reason) start d₂ in
+    let d₄ = number-after l (y .kind + y .reason) (y .start) (r .start) end d₃ in
+    let d₅ = number-after l (y .kind + y .reason + y .start) (y .end) (r .end) line d₄ in
+    let d₆ = number-after l (y .kind + y .reason + y .start + y .end) (y .line) (r .line) column d₅ in
+    λ i. record {
+      kind = number-here l 0 (y .kind) (r .kind) reason d₁ (h .kind) i;
+      reason = number-here l (y .kind) (y .reason) (r .reason) start d₂ (h .reason) i;
+      start = number-here l (y .kind + y .reason) (y .start) (r .start) end d₃ (h .start) i;
+      end = number-here l (y .kind + y .reason + y .start) (y .end) (r .end) line d₄ (h .end) i;
+      line = number-here l (y .kind + y .reason + y .start + y .end) (y .line) (r .line) column d₅ (h .line) i;
+      column = number-here l (y .kind + y .reason + y .start + y .end + y .line) (y .column) (r .column) rest d₆ (h .column) i;
+    }
 
 pub rows-back : (y : Layout) (rs : List Row) (rest : List ℕ) → RowsFit y rs → bytesRows y (length rs) (rowsBytes y rs ++ rest) ≡ rs
 unfolding bytesRows rowsBytes
@@ -76,7 +62,7 @@ rows-back y (r ∷ rs) rest (RowsFit.some f g) =
 
 -- ---- bytes, read and written
 
-module _ (l : List ℕ) (h : Bytes l) where
+module _ (l : List ℕ) (h : AreBytes l) where
   -- a number that was read has room in its bytes, and is written as those bytes
   number-fits : (p w : ℕ) → numberAt l p w < 256 ^ w
   number-fits p w =
@@ -93,15 +79,7 @@ module _ (l : List ℕ) (h : Bytes l) where
 
   pub row-fits : (y : Layout) → RowFits y (bytesRow y l)
   unfolding bytesRow
-  row-fits y =
-      record {
-        kind = number-fits 0 (y .kind);
-        reason = number-fits (y .kind) (y .reason);
-        start = number-fits (y .kind + y .reason) (y .start);
-        end = number-fits (y .kind + y .reason + y .start) (y .end);
-        line = number-fits (y .kind + y .reason + y .start + y .end) (y .line);
-        column = number-fits (y .kind + y .reason + y .start + y .end + y .line) (y .column);
-      }
+  row-fits y = search number-fits
 
   pub row-forth : (y : Layout) → rowWidth y ≤ length l → rowBytes y (bytesRow y l) ≡ take (rowWidth y) l
   unfolding rowBytes bytesRow rowWidth
@@ -120,12 +98,12 @@ module _ (l : List ℕ) (h : Bytes l) where
         take-add (y .kind) (y .reason) l,
       )
 
-pub rows-fit : (y : Layout) (n : ℕ) (l : List ℕ) → Bytes l → RowsFit y (bytesRows y n l)
+pub rows-fit : (y : Layout) (n : ℕ) (l : List ℕ) → AreBytes l → RowsFit y (bytesRows y n l)
 unfolding bytesRows
 rows-fit y zero l h = RowsFit.none
 rows-fit y (suc n) l h = RowsFit.some (row-fits l h y) (rows-fit y n (drop (rowWidth y) l) (bytes-drop (rowWidth y) l h))
 
-pub rows-forth : (y : Layout) (n : ℕ) (l : List ℕ) → Bytes l → rowWidth y * n ≤ length l → rowsBytes y (bytesRows y n l) ≡ take (rowWidth y * n) l
+pub rows-forth : (y : Layout) (n : ℕ) (l : List ℕ) → AreBytes l → rowWidth y * n ≤ length l → rowsBytes y (bytesRows y n l) ≡ take (rowWidth y * n) l
 unfolding bytesRows rowsBytes
 rows-forth y zero l h r = let e : rowWidth y * 0 ≡ 0 = omega arith in rw e
 rows-forth y (suc n) l h r =

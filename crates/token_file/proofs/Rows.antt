@@ -1,9 +1,10 @@
--- One row, as the code reads and writes it, against the definitions: the field places of any layout. Assumes nothing.
-use mathlib.Core.Path.{_≡_, refl, _∙_}
+-- For `row_at`, `natural_row`, `put_row`, `put_header`, `get_row` and `is_framed`: one row, or the header, as the code reads and writes it, is what the
+-- definition says. By rewriting, for the field places of any layout. Assumes nothing.
+use mathlib.Core.Path.{_≡_, refl}
 use mathlib.Core.Bool.{Bool, false, _&&_}
 use mathlib.Core.List.{List, [], _∷_, _++_, append-assoc}
 use Prim.Native.Nat.{ℕ, _+_, _≤_, _<_, _^_}
-use native.Mathlib.Nat.{add-zero, mul-le-mul-right}
+use native.Mathlib.Nat.{add-zero, add-assoc, mul-le-mul-right}
 use native.Mathlib.Omega.{arith}
 use lib.Dec.{eqb}
 use lib.IntN.{ℤ, pos}
@@ -11,8 +12,8 @@ use lib.ListN.{length, getD, take, drop}
 use lib.Seq.{sets, drop-drop, getD-drop}
 use borrow.Author.Tests.{le-leb, lt-leb}
 use Rattle.base.specs.Bytes.{sameBytes}
-use Rattle.token_file.specs.Rules.{natural, magnitude, number, rowAt, naturalRow}
-use Rattle.token_file.specs.Format.{little, numberAt, mark, rowWidth, rowBytes, header, bytesRow, fileWidth, fileCount, framed}
+use Rattle.token_file.specs.Rules.{natural, naturalOf, fieldAt, rowAt, naturalRow}
+use Rattle.token_file.specs.Format.{little, numberAt, fileMark, rowWidth, rowBytes, header, bytesRow, fileWidth, fileCount, framed}
 use Rattle.token_file.specs.Fits.{Narrow, RowRead}
 use Rattle.token_file.specs.declared.row.Row.{Row}
 use Rattle.token_file.specs.declared.layout.Layout.{Layout}
@@ -23,28 +24,28 @@ use Rattle.base.proofs.Stores.{Stored, stored-then}
 -- ---- from records
 
 module _ (l : List ℤ) (at : ℕ) where
-  -- the number at a place of the record that starts at `at`
-  pub number-first : number (drop at l) 0 ≡ number l at
+  -- the fieldAt at a place of the record that starts at `at`
+  pub number-first : fieldAt (drop at l) 0 ≡ fieldAt l at
   number-first = simp (getD-drop, add-zero)
 
-  pub number-next : (k : ℕ) → number (drop at l) k ≡ number l (at + k)
+  pub number-next : (k : ℕ) → fieldAt (drop at l) k ≡ fieldAt l (at + k)
   number-next k = getD-drop at l k (pos 0)
 
-  pub row-is : {k r s e n c : ℕ} → k ≡ magnitude (number l at) → r ≡ magnitude (number l (at + 1)) → s ≡ magnitude (number l (at + 3))
-      → e ≡ magnitude (number l (at + 4)) → n ≡ magnitude (number l (at + 5)) → c ≡ magnitude (number l (at + 6))
+  pub row-is : {k r s e n c : ℕ} → k ≡ naturalOf (fieldAt l at) → r ≡ naturalOf (fieldAt l (at + 1)) → s ≡ naturalOf (fieldAt l (at + 3))
+      → e ≡ naturalOf (fieldAt l (at + 4)) → n ≡ naturalOf (fieldAt l (at + 5)) → c ≡ naturalOf (fieldAt l (at + 6))
       → _≡_ {A = Row} (record { kind = k; reason = r; start = s; end = e; line = n; column = c }) (rowAt (drop at l))
   unfolding rowAt
   row-is pk pr ps pe pn pc = rw (number-first, number-next 1, number-next 3, number-next 4, number-next 5, number-next 6, pk, pr, ps, pe, pn, pc)
 
-  pub natural-row-is : {k r s e n c : Bool} → k ≡ natural (number l at) → r ≡ natural (number l (at + 1)) → s ≡ natural (number l (at + 3))
-      → e ≡ natural (number l (at + 4)) → n ≡ natural (number l (at + 5)) → c ≡ natural (number l (at + 6))
+  pub natural-row-is : {k r s e n c : Bool} → k ≡ natural (fieldAt l at) → r ≡ natural (fieldAt l (at + 1)) → s ≡ natural (fieldAt l (at + 3))
+      → e ≡ natural (fieldAt l (at + 4)) → n ≡ natural (fieldAt l (at + 5)) → c ≡ natural (fieldAt l (at + 6))
       → k && (r && (s && (e && (n && c)))) ≡ naturalRow (drop at l)
   unfolding naturalRow
   natural-row-is pk pr ps pe pn pc = rw (number-first, number-next 1, number-next 3, number-next 4, number-next 5, number-next 6, pk, pr, ps, pe, pn, pc)
 
 -- ---- to bytes
 
--- a number is written, and then the rest from its end on
+-- a fieldAt is written, and then the rest from its end on
 put-then : {l l₁ l₂ : List ℕ} {i : ℕ} (w n : ℕ) {ws : List ℕ} → l₁ ≡ sets l i (little w n) → Stored l₁ (i + w) ws l₂ → Stored l i (little w n ++ ws) l₂
 put-then w n e q = stored-then {vs = little w n} (record { is = e }) (rw (length-little w n)) q
 
@@ -59,19 +60,16 @@ module _ (y : Layout) (r : Row) (at : ℕ) (l : List ℕ) {l₁ l₂ l₃ l₄ l
       simp append-assoc (put-then (y .kind) (r .kind) p₁ (put-then (y .reason) (r .reason) p₂ (put-then (y .start) (r .start) p₃
       (put-then (y .end) (r .end) p₄ (put-then (y .line) (r .line) {ws = little (y .column) (r .column)} p₅ (record { is = p₆ }))))) .is)
 
-pub header-put : (y : Layout) (n : ℕ) (l : List ℕ) {l₁ l₂ : List ℕ} → l₁ ≡ sets (sets l 0 mark) 3 (little 2 (y .version)) → l₂ ≡ sets l₁ 5 (little 4 n) → l₂ ≡ sets l 0 (header y n)
+pub header-put : (y : Layout) (n : ℕ) (l : List ℕ) {l₁ l₂ : List ℕ} → l₁ ≡ sets (sets l 0 fileMark) 3 (little 2 (y .version))
+    → l₂ ≡ sets l₁ 5 (little 4 n) → l₂ ≡ sets l 0 (header y n)
 unfolding header
 header-put y n l p₁ p₂ =
-    stored-then {l = l} {i = 0} {vs = mark} (record { is = refl }) refl (put-then 2 (y .version) p₁ (record { is = p₂ })) .is
+    stored-then {l = l} {i = 0} {vs = fileMark} (record { is = refl }) refl (put-then 2 (y .version) p₁ (record { is = p₂ })) .is
 
 -- ---- from bytes
 
--- the number at a place of the row that starts at i
-number-shift : (l : List ℕ) (at k w p : ℕ) → p ≡ at + k → numberAt l p w ≡ numberAt (drop at l) k w
-number-shift l at k w p e = rw (e, drop-drop k at l)
-
 module _ (y : Layout) (l : List ℕ) (at : ℕ) (m : Narrow y) where
-  -- what reading a number gives
+  -- what reading a fieldAt gives
   abbrev Read : ℕ → ℕ → ℕ → Type 0
   Read p w x = (x ≡ numberAt l p w) × (x < 256 ^ w)
 
@@ -82,28 +80,13 @@ module _ (y : Layout) (l : List ℕ) (at : ℕ) (m : Narrow y) where
   unfolding bytesRow
   row-read pk pr ps pe pn pc =
       record {
-        is = λ i. record {
-          kind = pk .0 i;
-          reason = (pr .0 ∙ number-shift l at (y .kind) (y .reason) (at + y .kind) refl) i;
-          start = (ps .0 ∙ number-shift l at (y .kind + y .reason) (y .start) (at + y .kind + y .reason) (omega arith)) i;
-          end = (pe .0 ∙ number-shift l at (y .kind + y .reason + y .start) (y .end) (at + y .kind + y .reason + y .start) (omega arith)) i;
-          line = (pn .0 ∙ number-shift l at (y .kind + y .reason + y .start + y .end) (y .line) (at + y .kind + y .reason + y .start + y .end) (omega arith)) i;
-          column = (pc .0 ∙ number-shift l at (y .kind + y .reason + y .start + y .end + y .line) (y .column) (at + y .kind + y .reason + y .start + y .end + y .line) (omega arith)) i;
-        };
-        small =
-            record {
-              kind = below-63 (m .kind) (pk .1);
-              reason = below-63 (m .reason) (pr .1);
-              start = below-63 (m .start) (ps .1);
-              end = below-63 (m .end) (pe .1);
-              line = below-63 (m .line) (pn .1);
-              column = below-63 (m .column) (pc .1);
-            };
+        is = rw (pk .0, pr .0, ps .0, pe .0, pn .0, pc .0) (simp (drop-drop, add-assoc, add-zero));
+        small = search below-63;
       }
 
 -- ---- the frame
 
-pub row-width-le : (y : Layout) → Narrow y → rowWidth y ≤ 42
+row-width-le : (y : Layout) → Narrow y → rowWidth y ≤ 42
 unfolding rowWidth
 row-width-le y h = omega arith
 
@@ -112,7 +95,7 @@ pub file-fits : (y : Layout) (n : ℕ) → Narrow y → n < 0x100000000 → file
 unfolding fileWidth
 file-fits y n h s = omega (arith, mul-le-mul-right n (row-width-le y h))
 
-mark-is : (l : List ℕ) → 3 ≤ length l → sameBytes (take 3 l) mark ≡ eqb (getD l 0 0) 79 && (eqb (getD l 1 0) 70 && eqb (getD l 2 0) 84)
+mark-is : (l : List ℕ) → 3 ≤ length l → sameBytes (take 3 l) fileMark ≡ eqb (getD l 0 0) 79 && (eqb (getD l 1 0) 70 && eqb (getD l 2 0) 84)
 unfolding sameBytes
 mark-is [] h = absurd (omega arith)
 mark-is (a ∷ []) h = absurd (omega arith)

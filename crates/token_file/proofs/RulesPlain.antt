@@ -1,18 +1,17 @@
--- The test of the record rules is true exactly where the rules hold in plain logic, whatever test of kind and reason they take, and rows that keep
+-- For `write_token_file`, the round trips, and readers: the test of the record rules is true exactly where they hold in plain logic, and rows that keep
 -- them are few enough for a 32-bit count. By cases on the tests, and by induction on the rows. Assumes nothing.
 use mathlib.Core.Path.{_≡_, refl, sym, _∙_}
-use mathlib.Core.Bool.{Bool, true, false, not, _&&_}
+use mathlib.Core.Bool.{Bool, true, not, _&&_}
 use mathlib.Core.List.{List, [], _∷_}
 use mathlib.Core.Logic.{_↔_}
 use Prim.Native.Nat.{ℕ, _+_, _*_, _≤_, _<_}
 use native.Mathlib.Omega.{arith}
-use lib.Dec.{leb, ltb, eqb}
+use lib.Dec.{leb, eqb}
 use lib.IntN.{ℤ}
 use lib.ListN.{length}
 use borrow.Author.Tests.{leb-true, le-leb, ltb-true, lt-ltb, eqb-true, eqb-false, eq-eqb, ne-eqb, not-true}
-use Rattle.base.specs.Choice.{pick}
 use Rattle.base.specs.Bytes.{within}
-use Rattle.base.proofs.Tests.{and-left, and-right, true-false, inside, within-low, within-high}
+use Rattle.base.proofs.Tests.{and-left, and-right, true-false, pick-case, inside, within-low, within-high}
 use Rattle.limits.specs.Limits.{maxMessageSize}
 use Rattle.token.specs.Kind.{eofNumber, lastNumber}
 use Rattle.token.specs.Layout.{recordWidth}
@@ -31,11 +30,9 @@ module _ (kind start end : ℕ) where
   span-other t n = ltb-true start end (rw (ne-eqb kind eofNumber n) at t)
 
   span-test : (kind ≡ eofNumber → start ≡ end) → ((kind ≡ eofNumber → ⊥) → start < end) → spanOk kind start end ≡ true
-  span-test i o = go (eqb kind eofNumber) refl
-    where
-      go : (b : Bool) → eqb kind eofNumber ≡ b → pick b (eqb start end) (ltb start end) ≡ true
-      go true e = eq-eqb start end (i (eqb-true kind eofNumber e))
-      go false e = lt-ltb start end (o (eqb-false kind eofNumber e))
+  span-test i o =
+      pick-case (λ t. t ≡ true) (eqb kind eofNumber) (λ e. eq-eqb start end (i (eqb-true kind eofNumber e)))
+      (λ e. lt-ltb start end (o (eqb-false kind eofNumber e)))
 
 -- ---- one row
 

@@ -1,6 +1,6 @@
--- The loops that write rows, as bytes or as records: what is left to store, stored from here on, makes the whole. For any layout. Assumes nothing.
+-- For `put_rows` and `store_rows`: what is left to store, stored from here on, makes the whole. A turn stores one row. Any layout. Assumes nothing.
 use mathlib.Core.Path.{_≡_, refl, sym, _∙_}
-use mathlib.Core.List.{List, _++_}
+use mathlib.Core.List.{List, _∷_, _++_}
 use Prim.Native.Nat.{ℕ, _+_, _-_, _*_, _≤_, _<_}
 use native.Mathlib.Omega.{arith}
 use lib.IntN.{ℤ}
@@ -13,6 +13,11 @@ use Rattle.token_file.specs.Format.{rowWidth, rowBytes, rowsBytes, fileW
 use Rattle.token_file.specs.declared.row.Row.{Row}
 use Rattle.token_file.specs.declared.layout.Layout.{Layout}
 use Rattle.token_file.proofs.Pieces.{rows-turn, bytes-turn, row-length, width-turn}
+
+-- a piece is stored, and then what comes after it
+piece : {A : Type 0} (out : List A) (to : ℕ) (vs ws : List A) {size : ℕ} {all : List A} → length vs ≡ size → sets out to (vs ++ ws) ≡ all
+    → sets (sets out to vs) (to + size) ws ≡ all
+piece out to vs ws n h = rw (← n) (sym (sets-append out to vs ws) ∙ h)
 
 -- ---- rows written
 
@@ -31,26 +36,23 @@ module _ {y : Layout} {l : List ℤ} {out₀ : List ℕ} {count : ℕ} {out : Li
   pub put-rows-room : 0 < left → to + rowWidth y ≤ length out
   put-rows-room h = omega (arith, w .room, width-turn (rowWidth y) left h)
 
-  pub put-rows-turn : 0 < left → {out′ : List ℕ} {r : Row} → r ≡ rowAt (drop at l) → out′ ≡ sets out to (rowBytes y r)
-      → PuttingRows y l out₀ count out′ (to + rowWidth y) (at + recordWidth) (left - 1)
+  pub put-rows-turn : 0 < left → {out′ : List ℕ} {r : Row} {width : ℕ} → width ≡ rowWidth y → r ≡ rowAt (drop at l)
+      → out′ ≡ sets out to (rowBytes y r) → PuttingRows y l out₀ count out′ (to + width) (at + recordWidth) (left - 1)
   unfolding rowsBytes
-  put-rows-turn h {out′} {r} er e =
+  put-rows-turn h {r = r} ew er e =
       let m = width-turn (rowWidth y) left h in
-      let n : length out′ ≡ length out = rw e (length-sets out to (rowBytes y r)) in
-      let d = w .records in
-      let room = w .room in
-      let size = w .size in
-      let q = rows-turn l at left h in
-      let rest = rowsBytes y (rowsOf (left - 1) (drop (at + recordWidth) l)) in
-      let a : sets (sets out to (rowBytes y r)) (to + rowWidth y) rest ≡ sets out to (rowBytes y r ++ rest) =
-      rw (row-length y r) at (sym (sets-append out to (rowBytes y r) rest)) in
-      record { room = omega arith; records = omega arith; size = n ∙ size; rest = rw e (a ∙ rw er (rw q at (w .rest))) }
+      let n = length-sets out to (rowBytes y r) in
+      let q : rowsOf left (drop at l) ≡ r ∷ rowsOf (left - 1) (drop (at + recordWidth) l) = rw er (rows-turn l at left h) in
+      rw (ew, e) (record {
+        room = omega (arith, w .room);
+        records = omega (arith, w .records);
+        size = n ∙ w .size;
+        rest = piece out to (rowBytes y r) _ (row-length y r) (rw q at (w .rest));
+      })
 
   pub put-rows-end : left ≤ 0 → out ≡ sets out₀ 9 (rowsBytes y (rowsOf count l))
   unfolding rowsOf rowsBytes
-  put-rows-end h =
-      let z : left ≡ 0 = omega arith in
-      rw z at (w .rest)
+  put-rows-end h = let z : left ≡ 0 = omega arith in rw z at (w .rest)
 
 -- ---- rows stored
 
@@ -65,25 +67,26 @@ pub store-rows-start : (y : Layout) (file : List ℕ) (tokens : List ℤ) (count
 unfolding fileWidth
 store-rows-start y file tokens count h k = record { bytes = h; room = omega arith; size = refl; rest = refl }
 
-module _ {y : Layout} {file : List ℕ} {tokens₀ : List ℤ} {count : ℕ} {tokens : List ℤ} {at to left : ℕ} (w : StoringRows y file tokens₀ count tokens at to left) where
+module _ {y : Layout} {file : List ℕ} {tokens₀ : List ℤ} {count : ℕ} {tokens : List ℤ} {at to left : ℕ}
+    (w : StoringRows y file tokens₀ count tokens at to left) where
   pub store-rows-room : 0 < left → at + rowWidth y ≤ length file
   store-rows-room h = omega (arith, w .bytes, width-turn (rowWidth y) left h)
 
-  pub store-rows-turn : 0 < left → {tokens′ : List ℤ} {r : Row} → r ≡ bytesRow y (drop at file) → tokens′ ≡ sets tokens to (rowNumbers r)
-      → StoringRows y file tokens₀ count tokens′ (at + rowWidth y) (to + recordWidth) (left - 1)
-  store-rows-turn h {tokens′} {r} er e =
+  pub store-rows-turn : 0 < left → {tokens′ numbers : List ℤ} {r : Row} {width : ℕ} → width ≡ rowWidth y → r ≡ bytesRow y (drop at file)
+      → numbers ≡ rowNumbers r → tokens′ ≡ sets tokens to numbers
+      → StoringRows y file tokens₀ count tokens′ (at + width) (to + recordWidth) (left - 1)
+  store-rows-turn h {r = r} ew er en et =
       let m = width-turn (rowWidth y) left h in
-      let n : length tokens′ ≡ length tokens = rw e (length-sets tokens to (rowNumbers r)) in
-      let d = w .bytes in
-      let room = w .room in
-      let size = w .size in
-      let q = bytes-turn y file at left h in
-      let rest = rowsNumbers (bytesRows y (left - 1) (drop (at + rowWidth y) file)) in
-      let a : sets (sets tokens to (rowNumbers r)) (to + recordWidth) rest ≡ sets tokens to (rowNumbers r ++ rest) = sym (sets-append tokens to (rowNumbers r) rest) in
-      record { bytes = omega arith; room = omega arith; size = n ∙ size; rest = rw e (a ∙ rw er (rw q at (w .rest))) }
+      let n = length-sets tokens to (rowNumbers r) in
+      let rs = bytesRows y (left - 1) (drop (at + rowWidth y) file) in
+      let q : bytesRows y left (drop at file) ≡ r ∷ rs = rw er (bytes-turn y file at left h) in
+      rw (ew, et, en) (record {
+        bytes = omega (arith, w .bytes);
+        room = omega (arith, w .room);
+        size = n ∙ w .size;
+        rest = piece tokens to (rowNumbers r) (rowsNumbers rs) refl (rw q at (w .rest));
+      })
 
   pub store-rows-end : left ≤ 0 → tokens ≡ sets tokens₀ 0 (rowsNumbers (bytesRows y count (drop 9 file)))
   unfolding bytesRows
-  store-rows-end h =
-      let z : left ≡ 0 = omega arith in
-      rw z at (w .rest)
+  store-rows-end h = let z : left ≡ 0 = omega arith in rw z at (w .rest)

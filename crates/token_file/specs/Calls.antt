@@ -17,6 +17,9 @@ use Rattle.token_file.specs.declared.write.Written.the-variants as writt
 use Rattle.token_file.specs.declared.read.Loaded.{Loaded}
 use Rattle.token_file.specs.declared.read.Loaded.the-variants as loaded
 
+-- Types of the code (src/write.rt, src/read.rt). `Written`, what writing answers: `Bytes n`, how many were written, or the refusals `BadRecords`,
+-- `LongColumn`, `NoRoom`. `Loaded`, what reading answers: `Count n`, how many tokens, or `BadFile`, `BadRecords`, `NoRoom`.
+
 -- the slice holds so many records, and they keep the rules: "The writer gets a slice and a count; too short a slice is 8"
 unfoldable pub recordsOk : List ℤ → ℕ → Bool
 recordsOk records count = leb (count * recordWidth) (length records) && (naturalRows count records && rowsOk reasonOk 0 (rowsOf count records))

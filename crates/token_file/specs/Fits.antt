@@ -1,20 +1,19 @@
--- Rows whose numbers have room in a layout, layouts whose numbers a machine word holds, and what the code's parts read and test.
+-- Helper definitions, for proofs and inner contracts alone: rows whose numbers have room in a layout, layouts whose numbers a machine word holds, and
+-- what the code's parts read and test.
 use mathlib.Core.Path.{_≡_}
 use mathlib.Core.Bool.{Bool, not}
 use mathlib.Core.List.{List, [], _∷_}
 use Prim.Native.Nat.{ℕ, _≤_, _<_, _^_}
 use lib.Dec.{eqb}
-use lib.ListN.{drop, getD}
+use lib.ListN.{drop}
 use Rattle.base.specs.Choice.{pick}
 use Rattle.token.specs.Kind.{eofNumber}
-use Rattle.token.specs.Layout.{Fits63}
+use Rattle.token.specs.Helpers.{Fits63}
 use Rattle.token_file.specs.Format.{bytesRow}
 use Rattle.token_file.specs.declared.row.Row.{Row}
 use Rattle.token_file.specs.declared.layout.Layout.{Layout}
 
--- every element is a byte
-abbrev pub Bytes : List ℕ → Type 0
-Bytes l = (k : ℕ) → getD l k 0 < 256
+-- Types that other files explain: `Row` in Rules.antt; `Layout` in Format.antt.
 
 -- each number of the row has room in the bytes that the layout gives it
 pub record RowFits (y : Layout) (r : Row) : Type 0 where

@@ -1,13 +1,16 @@
--- The bytes of a token file: document 01, "mark `OFT`, 16-bit version 1, 32-bit count, then per token kind and reason (8 bits each), start, end,
+-- The bytes of a token file: document 01, "fileMark `OFT`, 16-bit version 1, 32-bit count, then per token kind and reason (8 bits each), start, end,
 -- line (32) and column (16), little-endian".
 use mathlib.Core.Bool.{Bool, _&&_}
 use mathlib.Core.List.{List, [], _∷_, _++_}
 use Prim.Native.Nat.{ℕ, zero, suc, _+_, _*_, _/_, _%_}
 use lib.Dec.{leb, eqb}
 use lib.ListN.{length, take, drop}
+use Rattle.base.specs.Characters.{ascii}
 use Rattle.base.specs.Bytes.{sameBytes}
 use Rattle.token_file.specs.declared.row.Row.{Row}
 use Rattle.token_file.specs.declared.layout.Layout.{Layout}
+
+-- Types that other files explain: `Row` in Rules.antt.
 
 -- ---- numbers as bytes
 
@@ -31,11 +34,11 @@ version1 = record { version = 1; kind = 1; reason = 1; start = 4; end = 4; line 
 unfoldable pub rowWidth : Layout → ℕ
 rowWidth y = y .kind + y .reason + y .start + y .end + y .line + y .column
 
--- the mark `OFT`
-abbrev pub mark : List ℕ
-mark = 79 ∷ 70 ∷ 84 ∷ []
+-- the fileMark `OFT`
+abbrev pub fileMark : List ℕ
+fileMark = ascii "OFT"
 
--- mark, version and count
+-- fileMark, version and count
 abbrev pub headerWidth : ℕ
 headerWidth = 9
 
@@ -51,7 +54,7 @@ rowsBytes y [] = []
 rowsBytes y (r ∷ rs) = rowBytes y r ++ rowsBytes y rs
 
 unfoldable pub header : Layout → ℕ → List ℕ
-header y count = mark ++ little 2 (y .version) ++ little 4 count
+header y count = fileMark ++ little 2 (y .version) ++ little 4 count
 
 -- the file of a list of rows
 unfoldable pub fileOf : Layout → List Row → List ℕ
@@ -92,7 +95,8 @@ fileCount file = numberAt file 5 4
 unfoldable pub fileRows : Layout → List ℕ → List Row
 fileRows y file = bytesRows y (fileCount file) (drop headerWidth file)
 
--- a file's frame is right: refusal 7 is "under 9 bytes, wrong mark or version, or length other than 9 + 16 × count"
+-- a file's frame is right: refusal 7 is "under 9 bytes, wrong fileMark or version, or length other than 9 + 16 × count"
 unfoldable pub framed : Layout → List ℕ → Bool
 framed y file =
-    leb headerWidth (length file) && (sameBytes (take 3 file) mark && (eqb (numberAt file 3 2) (y .version) && eqb (length file) (fileWidth y (fileCount file))))
+    leb headerWidth (length file)
+    && (sameBytes (take 3 file) fileMark && (eqb (numberAt file 3 2) (y .version) && eqb (length file) (fileWidth y (fileCount file))))

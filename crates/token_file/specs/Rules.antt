@@ -14,38 +14,40 @@ use Rattle.token.specs.Layout.{recordWidth, recordNumbers}
 use Rattle.token.specs.declared.layout.Record.{Record}
 use Rattle.token_file.specs.declared.row.Row.{Row}
 
+-- Types that other files explain: `Record` in token/specs/Layout.antt.
+
 -- ---- rows of a list of records
 
--- a number that is not below 0
+-- a fieldAt that is not below 0
 abbrev pub natural : ℤ → Bool
 natural (pos n) = true
 natural (negsuc n) = false
 
 -- its value
-abbrev pub magnitude : ℤ → ℕ
-magnitude (pos n) = n
-magnitude (negsuc n) = 0
+abbrev pub naturalOf : ℤ → ℕ
+naturalOf (pos n) = n
+naturalOf (negsuc n) = 0
 
--- the number at place k of a record
-abbrev pub number : List ℤ → ℕ → ℤ
-number l k = getD l k (pos 0)
+-- the fieldAt at place k of a record
+abbrev pub fieldAt : List ℤ → ℕ → ℤ
+fieldAt l k = getD l k (pos 0)
 
 -- the kept numbers of the record at the front: "kind, reason, detail, start, end, line, column"; a `Row` of the code has all of these but the detail
 unfoldable pub rowAt : List ℤ → Row
 rowAt l =
     record {
-      kind = magnitude (number l 0);
-      reason = magnitude (number l 1);
-      start = magnitude (number l 3);
-      end = magnitude (number l 4);
-      line = magnitude (number l 5);
-      column = magnitude (number l 6);
+      kind = naturalOf (fieldAt l 0);
+      reason = naturalOf (fieldAt l 1);
+      start = naturalOf (fieldAt l 3);
+      end = naturalOf (fieldAt l 4);
+      line = naturalOf (fieldAt l 5);
+      column = naturalOf (fieldAt l 6);
     }
 
 -- none of the kept numbers of the record at the front is below 0
 unfoldable pub naturalRow : List ℤ → Bool
 naturalRow l =
-    natural (number l 0) && (natural (number l 1) && (natural (number l 3) && (natural (number l 4) && (natural (number l 5) && natural (number l 6)))))
+    natural (fieldAt l 0) && (natural (fieldAt l 1) && (natural (fieldAt l 3) && (natural (fieldAt l 4) && (natural (fieldAt l 5) && natural (fieldAt l 6)))))
 
 -- the rows of the first n records
 unfoldable pub rowsOf : ℕ → List ℤ → List Row

@@ -2,6 +2,6 @@
 pub mod layout;
 pub mod number;
 pub mod read;
-pub mod records;
-pub mod row;
+mod records;
+mod row;
 pub mod write;

@@ -4,24 +4,24 @@ ghost use mathlib.Core.Path.{_≡_};
 ghost use Prim.Native.Nat.{_+_, _*_, _≤_, _<_};
 ghost use lib.ListN.{length, drop};
 ghost use Rattle.token.specs.Layout.{recordWidth};
-ghost use Rattle.token_file.specs.Rules.{natural, magnitude, number, naturalRow, rowAt, rowsOf, someAbove};
+ghost use Rattle.token_file.specs.Rules.{natural, naturalOf, fieldAt, naturalRow, rowAt, rowsOf, someAbove};
 ghost use Rattle.token_file.specs.Calls.{recordsOk};
 use crate::row;
 use crate::row::Row;
 
-// Whether the number at `at` is not below 0.
+// Whether the fieldAt at `at` is not below 0.
 fn natural_at(records: &[i64], at: usize) -> bool
     requires { ⌜ at < length (now records) ⌝ }
-    ensures { λ r. ⌜ r ≡ natural (number (now (records .entry)) at) ⌝ }
+    ensures { λ r. ⌜ r ≡ natural (fieldAt (now (records .entry)) at) ⌝ }
 {
     let z = records[at];
     0 <= z
 }
 
-// The number at `at`, or 0 where it is below 0.
+// The fieldAt at `at`, or 0 where it is below 0.
 fn magnitude_at(records: &[i64], at: usize) -> usize
     requires { ⌜ at < length (now records) ⌝ }
-    ensures { λ r. ⌜ r ≡ magnitude (number (now (records .entry)) at) ⌝ }
+    ensures { λ r. ⌜ r ≡ naturalOf (fieldAt (now (records .entry)) at) ⌝ }
 {
     let z = records[at];
     if z < 0 {
@@ -30,7 +30,7 @@ fn magnitude_at(records: &[i64], at: usize) -> usize
     z as usize
 }
 
-// Whether no kept number of the record at `at` is below 0.
+// Whether no kept fieldAt of the record at `at` is below 0.
 fn natural_row(records: &[i64], at: usize) -> bool
     requires { ⌜ at + recordWidth ≤ length (now records) ⌝ }
     ensures { λ r. ⌜ r ≡ naturalRow (drop at (now (records .entry))) ⌝ }

@@ -1,5 +1,5 @@
--- The dedent byte by byte is the dedent by lines: the indent removed after each newline is the indent removed from each line, and the last
--- line is what stands after the last newline. By induction on the text. Assumes nothing.
+-- The dedent byte by byte, as `undent_len`, `undent_write` and `last_line` go, is the dedent by lines of the contracts. By induction on the
+-- text. Assumes nothing.
 use mathlib.Core.Path.{_≡_, refl, ap, _∙_}
 use mathlib.Core.Bool.{Bool, true, false, _&&_}
 use mathlib.Core.List.{List, [], _∷_, _++_, map}
@@ -9,9 +9,9 @@ use borrow.Author.Tests.{eqb-true, eqb-false, ne-eqb}
 use lib.Dec.{eqb, eqb·suc-zero}
 use lib.ListN.{length, drop, take}
 use Rattle.base.specs.Choice.{pick}
-use Rattle.base.proofs.Tests.{and-right, true-false}
-use Rattle.triple_strings.specs.Dedent.{first, others, lines, join, joinRest, lastOf, initOf, blank, prefix, strip, unindent}
-use Rattle.triple_strings.specs.UndentBytes.{lastStart, indentSize, undent, undented}
+use Rattle.base.proofs.Tests.{and-right, pick-case, true-false}
+use Rattle.triple_strings.specs.Dedent.{first, others, join, joinRest, lastOf, initOf, blank, prefix, strip, unindent}
+use Rattle.triple_strings.specs.UndentBytes.{lines, lastStart, indentSize, undent, undented}
 
 -- ---- an indent has no newline, so it stands in the first line
 
@@ -41,11 +41,7 @@ size-first p l h = rw (prefix-first p l h)
 
 pub indent-le : (p l : List ℕ) → indentSize p l ≤ length l
 unfolding indentSize
-indent-le p l = go (prefix p l) refl
-  where
-    go : (b : Bool) → prefix p l ≡ b → pick b (length p) 0 ≤ length l
-    go true e = prefix-long p l e
-    go false e = omega arith
+indent-le p l = pick-case (λ (n : ℕ). n ≤ length l) (prefix p l) (prefix-long p l) (λ _. omega arith)
 
 strip-drop : (p l : List ℕ) → strip p l ≡ drop (indentSize p l) l
 unfolding strip indentSize
@@ -93,35 +89,15 @@ record Cut (l f : List ℕ) (o : List (List ℕ)) (n : ℕ) : Type 0 where
   none : n ≡ 0 → o ≡ []
   some : (m : ℕ) → n ≡ suc m → lines (take m l) ≡ initOf f o
 
-module _ (x : ℕ) (xs : List ℕ) where
-  first-newline : eqb x 0x0A ≡ true → first (x ∷ xs) ≡ []
-  unfolding first
-  first-newline e = rw e
-
-  first-other : eqb x 0x0A ≡ false → first (x ∷ xs) ≡ x ∷ first xs
-  unfolding first
-  first-other e = rw e
-
-  others-newline : eqb x 0x0A ≡ true → others (x ∷ xs) ≡ first xs ∷ others xs
-  unfolding others
-  others-newline e = rw e
-
-  others-other : eqb x 0x0A ≡ false → others (x ∷ xs) ≡ others xs
-  unfolding others
-  others-other e = rw e
-
-lines-nil : lines [] ≡ [] ∷ []
-unfolding first others
-lines-nil = refl
-
 -- one byte more at the front, a newline or another; after it stands no newline, or some
 module _ (x : ℕ) (xs f : List ℕ) where
   newline-none : (o : List (List ℕ)) → Cut xs f o 0 → Cut (x ∷ xs) [] (f ∷ o) 1
+  unfolding first others
   newline-none o u =
       record {
         last = u .last;
         none = λ e. absurd (omega arith);
-        some = λ m e. let z : m ≡ 0 = omega arith in rw (z, lines-nil, u .none refl);
+        some = λ m e. let z : m ≡ 0 = omega arith in rw (z, u .none refl);
       }
 
   other-none : (o : List (List ℕ)) → Cut xs f o 0 → Cut (x ∷ xs) (x ∷ f) o 0
@@ -131,16 +107,18 @@ module _ (x : ℕ) (xs f : List ℕ) where
       record { last = rw (n, l) refl; none = λ _. n; some = λ m e. absurd (omega arith) }
 
   newline-some : (o : List (List ℕ)) (k : ℕ) → eqb x 0x0A ≡ true → Cut xs f o (suc k) → Cut (x ∷ xs) [] (f ∷ o) (suc (suc k))
+  unfolding first others
   newline-some o k nl u =
       record {
         last = u .last;
         none = λ e. absurd (omega arith);
         some = λ m e.
             let z : m ≡ suc k = omega arith in
-            rw (z, first-newline x (take k xs) nl, others-newline x (take k xs) nl) (ap {B = List (List ℕ)} (λ r. [] ∷ r) (u .some k refl));
+            rw (z, nl) (ap {B = List (List ℕ)} (λ r. [] ∷ r) (u .some k refl));
       }
 
   other-some : (o : List (List ℕ)) (k : ℕ) → eqb x 0x0A ≡ false → Cut xs f o (suc k) → Cut (x ∷ xs) (x ∷ f) o (suc (suc k))
+  unfolding first others
   other-some [] k on u = let e : lines (take k xs) ≡ [] = u .some k refl in let z : _≡_ {A = ℕ} 0 1 = cc in absurd (omega arith)
   other-some (b ∷ r) k on u =
       record {
@@ -149,7 +127,7 @@ module _ (x : ℕ) (xs f : List ℕ) where
         some = λ m e.
             let z : m ≡ suc k = omega arith in
             let i : lines (take k xs) ≡ f ∷ initOf b r = u .some k refl in
-            rw (z, first-other x (take k xs) on, others-other x (take k xs) on) (cc);
+            rw (z, on) (cc);
       }
 
 cut-cons : (x : ℕ) (xs : List ℕ) (n : ℕ) (b : Bool) → eqb x 0x0A ≡ b → Cut xs (first xs) (others xs) n

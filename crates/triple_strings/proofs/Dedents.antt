@@ -1,5 +1,5 @@
--- The returns of `lead_len`, `unindent_len`, `unindent_write`, `dedent_len` and `dedent_write`; the dedent is never longer than the raw
--- bytes. Assumes nothing.
+-- For `lead_len`, `unindent_len`, `unindent_write`, `dedent_len` and `dedent_write`: each return is a row of its definition. And the dedent is
+-- never longer than the raw bytes. Assumes nothing.
 use mathlib.Core.Path.{_≡_, refl, ap, sym, _∙_}
 use mathlib.Core.Bool.{Bool, true, false}
 use mathlib.Core.List.{List, [], _∷_}
@@ -12,6 +12,7 @@ use lib.Seq.{sets, length-take-le, take-length}
 use Rattle.base.specs.Choice.{pick}
 use Rattle.base.specs.Bytes.{byte}
 use Rattle.base.proofs.Reaches.{rest-is}
+use Rattle.base.proofs.Tests.{pick-case}
 use Rattle.triple_strings.specs.Dedent.{blank, unlead, unindent, dedent}
 use Rattle.triple_strings.specs.UndentBytes.{lastStart, undent, undented}
 use Rattle.triple_strings.proofs.ByLines.{indentOf, bodyOf, unindent-parts}
@@ -116,20 +117,16 @@ module _ (raw : List ℕ) (f : ℕ) (e : drop f raw ≡ unlead raw) where
 -- ---- the dedent is never longer than the raw bytes
 
 unindent-le : (s : List ℕ) → length (unindent s) ≤ length s
-unindent-le s = rw (unindent-parts s) (go (blank 0 (indentOf s)))
-  where
-    go : (b : Bool) → length (pick b (undented (indentOf s) (bodyOf s)) s) ≤ length s
-    go true = omega (arith, undented-le (indentOf s) (bodyOf s), length-take-le (lastStart s - 1) s (omega (arith, start-le s)), start-le s)
-    go false = omega arith
+unindent-le s =
+    rw (unindent-parts s)
+    (pick-case (λ (r : List ℕ). length r ≤ length s) (blank 0 (indentOf s))
+    (λ _. omega (arith, undented-le (indentOf s) (bodyOf s), length-take-le (lastStart s - 1) s (omega (arith, start-le s)), start-le s))
+    (λ _. omega arith))
 
 unlead-le : (s : List ℕ) → length (unlead s) ≤ length s
 unfolding unlead
 unlead-le [] = omega arith
-unlead-le (x ∷ s) = go (eqb x 0x0A)
-  where
-    go : (b : Bool) → length (pick b s (x ∷ s)) ≤ suc (length s)
-    go true = omega arith
-    go false = omega arith
+unlead-le (x ∷ s) = pick-case (λ (r : List ℕ). length r ≤ suc (length s)) (eqb x 0x0A) (λ _. omega arith) (λ _. omega arith)
 
 pub dedent-le : (raw : List ℕ) → length (dedent raw) ≤ length raw
 unfolding dedent

@@ -1,9 +1,9 @@
-pub mod ByLines
+mod ByLines
 pub mod QuoteSearch
-pub mod LineScans
-pub mod Undents
-pub mod Dedents
-pub mod RawParts
+mod LineScans
+mod Undents
+mod Dedents
+mod RawParts
 pub mod Triples
 pub mod ValueOctets
-pub mod Examples
+mod Examples

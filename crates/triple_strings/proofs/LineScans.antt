@@ -1,4 +1,5 @@
--- Turns of the loops of `is_blank`, `last_line` and `starts_with`, and the returns of `indent_size`. Assumes nothing.
+-- For the loops of `is_blank`, `last_line` and `starts_with`: what is found so far, with what is left, makes the whole. By the law of one step.
+-- Assumes nothing.
 use mathlib.Core.Path.{_≡_, refl, ap, sym, _∙_}
 use mathlib.Core.Bool.{Bool, true, false, _&&_}
 use mathlib.Core.List.{List, [], _∷_, _++_}
@@ -13,19 +14,14 @@ use mir.Syntax.{w64}
 use mir.Val.{Fits}
 use Rattle.base.specs.Choice.{pick}
 use Rattle.base.specs.Bytes.{byte}
-use Rattle.base.proofs.Tests.{pick-le}
 use Rattle.base.proofs.Reaches.{rest-is}
-use Rattle.utf8.specs.Character.{decodeOf, isWhite, whiteSize}
-use Rattle.utf8.proofs.Chars.{size-le}
+use Rattle.utf8.specs.Character.{whiteSize}
+use Rattle.utf8.proofs.Codes.{white-le}
 use Rattle.triple_strings.specs.Dedent.{next, blank, prefix}
-use Rattle.triple_strings.specs.UndentBytes.{lastStart, indentSize}
+use Rattle.triple_strings.specs.UndentBytes.{lastStart}
 use Rattle.triple_strings.proofs.ByLines.{prefix-long}
 
 -- ---- `is_blank`
-
-white-le : (t : List ℕ) → whiteSize t ≤ length t
-unfolding whiteSize
-white-le t = pick-le (isWhite (decodeOf t .code)) (size-le t) (omega arith)
 
 blank-skip : (k : ℕ) (t : List ℕ) → blank k t ≡ blank 0 (drop k t)
 unfolding blank
@@ -163,14 +159,3 @@ module _ (p t : List ℕ) (k : ℕ) (u : Matching p t k) where
 
     pub matching-on : byte p k ≡ byte t k → Matching p t (k + 1)
     matching-on e = record { inside = omega arith; is = matching-turn ∙ rw (eq-eqb (byte p k) (byte t k) e) refl }
-
--- ---- `indent_size`
-
-module _ (p t : List ℕ) (b : Bool) (e : b ≡ prefix p t) where
-  pub indent-here : b ≡ true → length p ≡ indentSize p t
-  unfolding indentSize
-  indent-here h = rw (← e, h)
-
-  pub indent-none : b ≡ false → 0 ≡ indentSize p t
-  unfolding indentSize
-  indent-none h = rw (← e, h)

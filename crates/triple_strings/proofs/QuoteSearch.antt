@@ -1,4 +1,4 @@
--- Three quotes and the search for them: what `at_quotes` and `find_quotes` return, and what stands where the search ends. By induction on the
+-- For `at_quotes`, `find_quotes` and the laws of the whole: three quotes, the search for them, and what stands where it ends. By induction on the
 -- rest of the text. Assumes nothing.
 use mathlib.Core.Path.{_≡_, refl, ap, sym, _∙_}
 use mathlib.Core.Bool.{Bool, true, false, _&&_, and-assoc}
@@ -11,7 +11,7 @@ use lib.ListN.{length, take, drop, length-drop, List·getD-eq-default}
 use lib.Seq.{drop-cons, getD-drop}
 use Rattle.base.specs.Choice.{pick}
 use Rattle.base.specs.Bytes.{byte}
-use Rattle.base.proofs.Tests.{and-left, and-right, and-false, in-text}
+use Rattle.base.proofs.Tests.{and-left, and-right, and-false, in-text, pick-le}
 use Rattle.base.proofs.Reaches.{rest-is}
 use Rattle.triple_strings.specs.Triple.{quotes, untilQuotes}
 
@@ -63,11 +63,7 @@ module _ (t : List ℕ) where
 pub until-le : (t : List ℕ) → untilQuotes t ≤ length t
 unfolding untilQuotes
 until-le [] = omega arith
-until-le (x ∷ t) = go (quotes (x ∷ t)) (until-le t)
-  where
-    go : (b : Bool) → untilQuotes t ≤ length t → pick b 0 (suc (untilQuotes t)) ≤ suc (length t)
-    go true l = omega arith
-    go false l = omega arith
+until-le (x ∷ t) = let l = until-le t in pick-le (quotes (x ∷ t)) (omega arith) (omega arith)
 
 -- where it ends before the text does, three quotes stand
 pub until-found : (t : List ℕ) → untilQuotes t < length t → quotes (drop (untilQuotes t) t) ≡ true
@@ -95,7 +91,7 @@ pub record Finding (t : List ℕ) (i : ℕ) : Type 0 where
   pub is : untilQuotes t ≡ i + untilQuotes (drop i t)
 
 pub finding-first : (t : List ℕ) → Finding t 0
-finding-first t = record { inside = omega arith; is = omega arith }
+finding-first t = omega arith
 
 module _ (t : List ℕ) (i : ℕ) (u : Finding t i) where
   step : i < length t → quotes (drop i t) ≡ false → Finding t (suc i)

@@ -1,18 +1,17 @@
--- The raw bytes as the code takes them from the text, and the returns of `open_triple_end`, `lex_triple_string` and `put_triple_string`.
--- Assumes nothing.
+-- For `lex_triple_string` and `put_triple_string`: the bytes that the code takes from the text are the raw bytes, and each return is a row of its
+-- definition. Assumes nothing.
 use mathlib.Core.Path.{_≡_}
 use mathlib.Core.Bool.{true, false}
 use mathlib.Core.List.{List}
 use Prim.Native.Nat.{ℕ, _+_, _-_, _≤_, _<_, _^_}
 use native.Mathlib.Omega.{arith}
-use borrow.Author.Tests.{lt-ltb, le-ltb, le-leb, lt-leb}
+use borrow.Author.Tests.{lt-ltb, le-ltb}
 use lib.Dec.{ltb}
 use lib.ListN.{length, take, drop, length-drop}
 use lib.Seq.{sets}
 use mir.Syntax.{w64}
 use mir.Val.{Fits}
 use Rattle.base.proofs.Reaches.{rest-is}
-use Rattle.utf8.specs.Check.{charEnd}
 use Rattle.token.specs.Reason as reasons
 use Rattle.token.specs.declared.kind.TokenKind.the-variants as K
 use Rattle.lexeme.specs.Lexeme.{extent, illegal}
@@ -27,17 +26,6 @@ use Rattle.triple_strings.proofs.QuoteSearch.{until-le}
 pub raw-le : (s : List ℕ) → 3 ≤ length s → rawSize s + 3 ≤ length s
 unfolding rawSize
 raw-le s h = omega (arith, until-le (drop 3 s), length-drop 3 s)
-
--- ---- `open_triple_end`
-
-module _ (s : List ℕ) (r : ℕ) where
-  pub end-short : length s < 5 → r ≡ charEnd s 3 → r ≡ openTripleEnd s
-  unfolding openTripleEnd
-  end-short h e = rw (lt-leb 5 (length s) h) e
-
-  pub end-long : 5 ≤ length s → r ≡ charEnd s (length s - 2) → r ≡ openTripleEnd s
-  unfolding openTripleEnd
-  end-long h e = rw (le-leb 5 (length s) h) e
 
 -- ---- after `find_quotes`
 

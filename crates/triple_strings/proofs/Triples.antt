@@ -1,9 +1,9 @@
--- Laws of `lexTripleString` for whoever reads whole texts: its numbers are in bounds, it counts the bytes and the reports that it stands for,
--- and it ends between characters. Assumes nothing.
+-- Laws of `lexTripleString` for the crate above, `lexer`: its numbers are in bounds, it counts the bytes and the reports that it stands for, and it
+-- ends between characters. By cases, closed or open. Assumes nothing.
 use mathlib.Core.Path.{_≡_, refl, ap, sym}
 use mathlib.Core.Bool.{Bool, true, false}
 use mathlib.Core.List.{List, [], List·Memᴰ, List·Memᴰ·not-nil, List·Memᴰ·eq-of-singleton}
-use Prim.Native.Nat.{ℕ, _+_, _-_, _≤_, _<_}
+use Prim.Native.Nat.{ℕ, _+_, _-_, _≤_}
 use native.Mathlib.Nat.{add-zero}
 use native.Mathlib.Omega.{arith}
 use borrow.Author.Tests.{ltb-true, leb-true}
@@ -13,10 +13,8 @@ use lib.Seq.{drop-drop, getD-drop, length-take-le}
 use Rattle.base.specs.Choice.{pick}
 use Rattle.base.specs.Bytes.{byte}
 use Rattle.base.proofs.Tests.{pick-case}
-use Rattle.base.proofs.Reaches.{reach-ge, reach-le, reach-fails}
-use Rattle.utf8.specs.Grammar.{Boundary}
-use Rattle.utf8.specs.Check.{isTail, inTails, charEnd}
-use Rattle.utf8.proofs.Boundaries.{boundary-at, ascii-boundary}
+use Rattle.utf8.specs.Onward.{Boundary}
+use Rattle.utf8.proofs.Boundaries.{boundary-at, ascii-boundary, end-boundary, char-end-ge, char-end-le, char-end-boundary}
 use Rattle.token.specs.Reason as reasons
 use Rattle.token.specs.declared.kind.TokenKind.the-variants as K
 use Rattle.lexeme.specs.Lexeme.{extent, Note}
@@ -25,7 +23,8 @@ use Rattle.lexeme.specs.declared.Mode.{Mode}
 use Rattle.lexeme.specs.declared.Mode.the-variants.{Strict, Tolerant}
 use Rattle.lexeme.proofs.Within.{Within, extent-within, illegal-within}
 use Rattle.triple_strings.specs.Dedent.{dedent}
-use Rattle.triple_strings.specs.Triple.{quotes, rawSize, rawBytes, closed, openTripleEnd, openTriple, lexTripleString, openBytes, tripleBytes, openNotes, tripleNotes}
+use Rattle.triple_strings.specs.Triple.{quotes, rawSize, rawBytes, closed, openTripleEnd, openTriple, lexTripleString}
+use Rattle.triple_strings.specs.Triple.{openTripleBytes, tripleBytes, openTripleNotes, tripleNotes}
 use Rattle.utf8.proofs.Concatenations.{ascii-no-tail}
 use Rattle.triple_strings.proofs.QuoteSearch.{quote-0, quote-1, quote-2, quotes-long, until-found}
 use Rattle.triple_strings.proofs.Dedents.{dedent-le}
@@ -59,20 +58,29 @@ module _ (s : List ℕ) where
   stop-in : 3 ≤ length s → (3 ≤ stop) × (stop ≤ length s)
   unfolding stop
   stop-in h =
-      pick-case (λ (n : ℕ). (3 ≤ n) × (n ≤ length s)) (leb 5 (length s)) (λ e. let l = leb-true 5 (length s) e in (omega arith, omega arith)) (λ e. (omega arith, h))
+      pick-case (λ (n : ℕ). (3 ≤ n) × (n ≤ length s)) (leb 5 (length s)) (λ e. let l = leb-true 5 (length s) e in omega arith) (λ _. omega arith)
 
   open-ge : 3 ≤ length s → 3 ≤ openTripleEnd s
-  unfolding openTripleEnd charEnd stop
-  open-ge h = omega (arith, stop-in h .0, reach-ge inTails s stop)
+  unfolding openTripleEnd stop
+  open-ge h = omega (arith, stop-in h .0, char-end-ge s stop)
 
   open-le : 3 ≤ length s → openTripleEnd s ≤ length s
-  unfolding openTripleEnd charEnd stop
-  open-le h = reach-le inTails s stop (stop-in h .1)
+  unfolding openTripleEnd stop
+  open-le h = char-end-le s stop (stop-in h .1)
 
-  -- no tail byte stands there
-  open-stop : openTripleEnd s < length s → isTail (byte s (openTripleEnd s)) ≡ false
-  unfolding openTripleEnd charEnd stop
-  open-stop h = reach-fails inTails s stop h
+-- closed, or open
+module _ (m : Mode) (s : List ℕ) (P : Lexeme → List ℕ → List Note → Type 0) where
+  by-closed : let v = dedent (rawBytes s) in
+      (closed s ≡ true → P (extent K.String (rawSize s + 6) 0 (length v) 0) v []) → P (openTriple m s) (openTripleBytes m s) (openTripleNotes m)
+      → P (lexTripleString m s) (tripleBytes m s) (tripleNotes m s)
+  unfolding lexTripleString tripleBytes tripleNotes
+  by-closed f g = go (closed s) refl
+    where
+      go : let v = dedent (rawBytes s) in
+          (b : Bool) → closed s ≡ b
+          → P (pick b (extent K.String (rawSize s + 6) 0 (length v) 0) (openTriple m s)) (pick b v (openTripleBytes m s)) (pick b [] (openTripleNotes m))
+      go true e = f e
+      go false e = g
 
 -- ---- the numbers are in bounds
 
@@ -84,13 +92,11 @@ open-within Tolerant s h =
     (omega (arith, value-le s h, raw-le s h)) (omega arith)
 
 pub triple-within : (m : Mode) (s : List ℕ) → 3 ≤ length s → Within s (lexTripleString m s)
-unfolding lexTripleString
 triple-within m s h =
-    pick-case (λ (r : Lexeme). Within s r) (closed s)
-    (λ c.
-    extent-within s K.String (rawSize s + 6) (omega arith) (closed-long s c) 0 (length (dedent (rawBytes s))) 0
+    by-closed m s (λ r bs ns. Within s r)
+    (λ c. extent-within s K.String (rawSize s + 6) (omega arith) (closed-long s c) 0 (length (dedent (rawBytes s))) 0
     (omega (arith, value-le s h)) (omega arith))
-    (λ _. open-within m s h)
+    (open-within m s h)
 
 -- ---- the bytes and the reports
 
@@ -98,17 +104,12 @@ not-illegal : K.String ≡ K.Illegal → ⊥
 not-illegal e = let z : _≡_ {A = ℕ} 0 1 = cc in omega arith
 
 -- the bytes of a String, open or closed, are what `put_triple_string` writes
-pub triple-bytes : (m : Mode) (s : List ℕ) → lexTripleString m s .kind ≡ K.String → tripleBytes m s ≡ dedent (rawBytes s)
-unfolding lexTripleString tripleBytes
-triple-bytes m s = go (closed s) m
-  where
-    v : List ℕ
-    v = dedent (rawBytes s)
+open-bytes : (m : Mode) (s : List ℕ) → openTriple m s .kind ≡ K.String → openTripleBytes m s ≡ dedent (rawBytes s)
+open-bytes Strict s e = absurd (not-illegal (sym e))
+open-bytes Tolerant s e = refl
 
-    go : (b : Bool) (m : Mode) → pick b (extent K.String (rawSize s + 6) 0 (length v) 0) (openTriple m s) .kind ≡ K.String → pick b v (openBytes m s) ≡ v
-    go true m e = refl
-    go false Strict e = absurd (not-illegal (sym e))
-    go false Tolerant e = refl
+pub triple-bytes : (m : Mode) (s : List ℕ) → lexTripleString m s .kind ≡ K.String → tripleBytes m s ≡ dedent (rawBytes s)
+triple-bytes m s = by-closed m s (λ r bs ns. r .kind ≡ K.String → bs ≡ dedent (rawBytes s)) (λ _ _. refl) (open-bytes m s)
 
 -- a lexeme counts its decoded bytes and its reports; an Illegal has no bytes, and each report stands at the token's start
 pub record Counted (r : Lexeme) (bytes : List ℕ) (notes : List Note) : Type 0 where
@@ -117,26 +118,22 @@ pub record Counted (r : Lexeme) (bytes : List ℕ) (notes : List Note) : Type 0 
   pub notes-counted : length notes ≡ r .reports
   pub at-start : (n : Note) → List·Memᴰ n notes → n .offset ≡ 0
 
-pub triple-size : (m : Mode) (s : List ℕ) → Counted (lexTripleString m s) (tripleBytes m s) (tripleNotes m s)
-unfolding lexTripleString tripleBytes tripleNotes
-triple-size m s = go (closed s) m
-  where
-    v : List ℕ
-    v = dedent (rawBytes s)
+open-size : (m : Mode) (s : List ℕ) → Counted (openTriple m s) (openTripleBytes m s) (openTripleNotes m)
+open-size Strict s =
+    record { bytes-counted = refl; illegal-none = λ _. refl; notes-counted = refl; at-start = λ n k. absurd (List·Memᴰ·not-nil k) }
+open-size Tolerant s =
+    record {
+      bytes-counted = refl;
+      illegal-none = λ e. absurd (not-illegal e);
+      notes-counted = refl;
+      at-start = λ n k. ap (λ (x : Note). x .offset) (List·Memᴰ·eq-of-singleton k);
+    }
 
-    go : (b : Bool) (m : Mode)
-        → Counted (pick b (extent K.String (rawSize s + 6) 0 (length v) 0) (openTriple m s)) (pick b v (openBytes m s)) (pick b [] (openNotes m))
-    go true m =
-        record { bytes-counted = refl; illegal-none = λ e. absurd (not-illegal e); notes-counted = refl; at-start = λ n k. absurd (List·Memᴰ·not-nil k) }
-    go false Strict =
-        record { bytes-counted = refl; illegal-none = λ _. refl; notes-counted = refl; at-start = λ n k. absurd (List·Memᴰ·not-nil k) }
-    go false Tolerant =
-        record {
-          bytes-counted = refl;
-          illegal-none = λ e. absurd (not-illegal e);
-          notes-counted = refl;
-          at-start = λ n k. ap (λ (x : Note). x .offset) (List·Memᴰ·eq-of-singleton k);
-        }
+pub triple-size : (m : Mode) (s : List ℕ) → Counted (lexTripleString m s) (tripleBytes m s) (tripleNotes m s)
+triple-size m s =
+    by-closed m s Counted
+    (λ _. record { bytes-counted = refl; illegal-none = λ e. absurd (not-illegal e); notes-counted = refl; at-start = λ n k. absurd (List·Memᴰ·not-nil k) })
+    (open-size m s)
 
 -- ---- the end is between characters
 
@@ -157,10 +154,9 @@ module _ (s : List ℕ) (b : Boundary s 0) where
       rw e at (ascii-boundary s (n + 1 + 1) (omega arith) (omega arith) b₂)
 
   open-boundary : (m : Mode) → 3 ≤ length s → Boundary s (openTriple m s .len)
-  open-boundary Strict h = boundary-at s (openTripleEnd s) (open-le s h) (open-stop s) 0 (omega arith) b
-  open-boundary Tolerant h = boundary-at s (length s) (omega arith) (λ l. absurd (omega arith)) 0 (omega arith) b
+  unfolding openTripleEnd stop
+  open-boundary Strict h = char-end-boundary s (stop s) (stop-in s h .1) b
+  open-boundary Tolerant h = end-boundary s b
 
 pub triple-boundary : (m : Mode) (s : List ℕ) → Boundary s 0 → quotes s ≡ true → Boundary s (lexTripleString m s .len)
-unfolding lexTripleString
-triple-boundary m s b q =
-    pick-case (λ (r : Lexeme). Boundary s (r .len)) (closed s) (closed-boundary s b) (λ _. open-boundary s b m (quotes-long s q))
+triple-boundary m s b q = by-closed m s (λ r bs ns. Boundary s (r .len)) (closed-boundary s b) (open-boundary s b m (quotes-long s q))

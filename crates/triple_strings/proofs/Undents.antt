@@ -1,19 +1,21 @@
--- Turns of the loops of `undent_len` and `undent_write`: what is left to do from i on gives the whole. Assumes nothing.
+-- For the loops of `undent_len` and `undent_write`: what is left to do from i on, with what is done, makes the whole. By the law of one byte more.
+-- Assumes nothing.
 use mathlib.Core.Path.{_≡_, refl, ap, sym, _∙_}
-use mathlib.Core.Bool.{Bool, true, false}
 use mathlib.Core.List.{List, [], _∷_}
 use Prim.Native.Nat.{ℕ, zero, suc, _+_, _-_, _≤_, _<_, _^_}
 use native.Mathlib.Numerals.{add-one}
 use native.Mathlib.Omega.{arith}
 use borrow.Author.Tests.{eq-eqb, ne-eqb}
 use lib.Dec.{eqb}
-use lib.ListN.{length, take, drop, set, length-drop, drop-of-length-le, length-set}
+use lib.ListN.{length, take, drop, set, length-drop, drop-of-length-le}
 use lib.Seq.{drop-cons, drop-drop, sets, take-length}
 use mir.Syntax.{w64}
 use mir.Val.{Fits}
 use Rattle.base.specs.Choice.{pick}
 use Rattle.base.specs.Bytes.{byte}
 use Rattle.base.proofs.Reaches.{rest-is}
+use Rattle.base.proofs.Storings.{Storing, storing-first, storing-end, storing-more}
+use Rattle.base.proofs.Tests.{pick-same}
 use Rattle.triple_strings.specs.Dedent.{prefix}
 use Rattle.triple_strings.specs.UndentBytes.{indentSize, undent, undented}
 use Rattle.triple_strings.proofs.ByLines.{indent-le}
@@ -53,13 +55,9 @@ undented-le ind s = undent-le ind (indentSize ind s) s
 undent-empty : (l : List ℕ) → undent [] 0 l ≡ l
 unfolding undent indentSize prefix
 undent-empty [] = refl
-undent-empty (x ∷ l) = go (eqb x 0x0A) (undent-empty l)
-  where
-    go : (b : Bool) → undent [] 0 l ≡ l → x ∷ undent [] (pick b 0 0) l ≡ x ∷ l
-    go true e = rw e
-    go false e = rw e
+undent-empty (x ∷ l) = rw (pick-same {A = ℕ} (eqb x 0x0A) 0, undent-empty l)
 
-pub undented-empty : (ind s : List ℕ) → length ind ≡ 0 → undented ind s ≡ s
+undented-empty : (ind s : List ℕ) → length ind ≡ 0 → undented ind s ≡ s
 unfolding undented indentSize prefix
 undented-empty [] s h = undent-empty s
 undented-empty (x ∷ ind) s h = absurd (omega arith)
@@ -106,8 +104,7 @@ pub record Counting (ind s : List ℕ) (gone i : ℕ) : Type 0 where
   pub is : length (undented ind s) + gone ≡ i + length (undent ind 0 (drop i s))
 
 pub counting-first : (ind s : List ℕ) (k : ℕ) → k ≡ indentSize ind s → Counting ind s k k
-counting-first ind s k e =
-    record { inside = omega (arith, indent-le ind s); few = omega arith; is = omega (arith, ap length (undented-from ind s k e)) }
+counting-first ind s k e = omega (arith, indent-le ind s, ap length (undented-from ind s k e))
 
 module _ (ind s : List ℕ) (gone i : ℕ) (u : Counting ind s gone i) where
   pub counting-end : length s ≤ i → length s - gone ≡ length (undented ind s)
@@ -115,17 +112,11 @@ module _ (ind s : List ℕ) (gone i : ℕ) (u : Counting ind s gone i) where
 
   module _ (h : i < length s) where
     pub counting-other : (byte s i ≡ 0x0A → ⊥) → Counting ind s gone (i + 1)
-    counting-other e =
-        record { inside = omega arith; few = omega (arith, u .few); is = omega (arith, u .is, ap length (undent-other ind s i h e)) }
+    counting-other e = omega (arith, u .few, u .is, ap length (undent-other ind s i h e))
 
     module _ (k : ℕ) (e : byte s i ≡ 0x0A) (is : k ≡ indentSize ind (take (length s - (i + 1)) (drop (i + 1) s))) where
       pub counting-newline : Counting ind s (gone + k) (i + 1 + k)
-      counting-newline =
-          record {
-            inside = size-in ind s i h k is;
-            few = omega (arith, u .few);
-            is = omega (arith, u .is, ap length (undent-newline ind s i h k is e));
-          }
+      counting-newline = omega (arith, size-in ind s i h k is, u .few, u .is, ap length (undent-newline ind s i h k is e))
 
       pub gone-fits : length s < 2 ^ 64 → Fits w64 (gone + k)
       gone-fits l = omega (arith, u .few, size-in ind s i h k is)
@@ -134,30 +125,22 @@ module _ (ind s : List ℕ) (gone i : ℕ) (u : Counting ind s gone i) where
 
 pub record Laying (ind s out₀ : List ℕ) (place : ℕ) (out : List ℕ) (i p : ℕ) : Type 0 where
   pub inside : i ≤ length s
-  pub same : length out ≡ length out₀
-  pub room : p + length (undent ind 0 (drop i s)) ≤ length out₀
-  pub is : sets out₀ place (undented ind s) ≡ sets out p (undent ind 0 (drop i s))
+  pub stored : Storing (undented ind s) out₀ place (undent ind 0 (drop i s)) out p
 
 pub laying-first : (ind s out : List ℕ) (place k : ℕ) → k ≡ indentSize ind s → place + length (undented ind s) ≤ length out
     → Laying ind s out place out k place
 laying-first ind s out place k e r =
     let w = undented-from ind s k e in
-    record { inside = omega (arith, indent-le ind s); same = refl; room = rw w at r; is = rw w refl }
+    record { inside = omega (arith, indent-le ind s); stored = rw (← w) (storing-first r) }
 
 module _ (ind s out₀ : List ℕ) (place : ℕ) (out : List ℕ) (i p : ℕ) (u : Laying ind s out₀ place out i p) where
   pub laying-end : length s ≤ i → out ≡ sets out₀ place (undented ind s)
-  laying-end h = sym (rw (undent-end ind s i h) at (u .is))
+  laying-end h = storing-end (u .stored) (undent-end ind s i h)
 
   module _ (h : i < length s) where
     laying-next : (j : ℕ) → j ≤ length s → undent ind 0 (drop i s) ≡ byte s i ∷ undent ind 0 (drop j s)
         → Laying ind s out₀ place (set out p (byte s i)) j (p + 1)
-    laying-next j le e =
-        record {
-          inside = le;
-          same = length-set out p (byte s i) ∙ u .same;
-          room = omega (arith, u .room, ap length e);
-          is = u .is ∙ ap (sets out p) e ∙ rw (add-one p) refl;
-        }
+    laying-next j le e = record { inside = le; stored = storing-more (u .stored) (byte s i ∷ []) _ e refl _ refl }
 
     pub laying-other : (byte s i ≡ 0x0A → ⊥) → Laying ind s out₀ place (set out p (byte s i)) (i + 1) (p + 1)
     laying-other e = laying-next (i + 1) (omega arith) (undent-other ind s i h e)
@@ -168,10 +151,10 @@ module _ (ind s out₀ : List ℕ) (place : ℕ) (out : List ℕ) (i p : ℕ) (u
 
     -- a byte is left to write, so there is room for it
     pub laying-room : p < length out
-    laying-room = omega (arith, u .room, u .same, ap length (undent-at ind s i h))
+    laying-room = omega (arith, u .stored .room, u .stored .same, ap length (undent-at ind s i h))
 
     pub laying-fits : length out₀ < 2 ^ 64 → Fits w64 (p + 1)
-    laying-fits l = omega (arith, laying-room, u .same)
+    laying-fits l = omega (arith, laying-room, u .stored .same)
 
 -- ---- with an empty indent
 

@@ -1,5 +1,5 @@
--- The value of a triple-quoted string of a well-formed text is well-formed: a text is cut at newlines and quotes, which are ASCII, the indent
--- is cut off where the line begins with it, and the lines are joined again. By induction on the text and on its lines. Assumes nothing.
+-- For the crate above, `lexer`: the value of a triple-quoted string of a well-formed text is well-formed, since a text is cut at newlines and
+-- quotes, which are ASCII, and at the indent, which is whole characters. By induction on the text and on its lines. Assumes nothing.
 use mathlib.Core.Path.{_≡_, refl}
 use mathlib.Core.Bool.{Bool, true, false}
 use mathlib.Core.List.{List, [], _∷_, _++_, map, append-nil}
@@ -18,7 +18,7 @@ use Rattle.utf8.proofs.Boundaries.{octets-cut}
 use Rattle.lexeme.specs.declared.Mode.{Mode}
 use Rattle.lexeme.specs.declared.Mode.the-variants.{Strict, Tolerant}
 use Rattle.triple_strings.specs.Dedent.{first, others, joinRest, join, lastOf, initOf, blank, prefix, strip, unlead, unindent, dedent}
-use Rattle.triple_strings.specs.Triple.{quotes, untilQuotes, rawSize, rawBytes, closed, openBytes, tripleBytes}
+use Rattle.triple_strings.specs.Triple.{quotes, untilQuotes, rawSize, rawBytes, closed, openTripleBytes, tripleBytes}
 use Rattle.utf8.proofs.Concatenations.{ascii-no-tail, ascii-octets, ascii-rest, octets-append, octets-rest}
 use Rattle.triple_strings.proofs.QuoteSearch.{quote-0, quote-1, quote-2, until-le, until-found}
 
@@ -82,7 +82,7 @@ module _ (ind : List ℕ) (o : Octets ind) where
   strip-octets : (l : List ℕ) → Octets l → Octets (strip ind l)
   unfolding strip
   strip-octets l q =
-      pick-case (λ (t : List ℕ). Octets t) (prefix ind l) (λ e. octets-rest (drop (length ind) l) o (rw (prefix-split ind l e) q)) (λ _. q)
+      pick-case Octets (prefix ind l) (λ e. octets-rest (drop (length ind) l) o (rw (prefix-split ind l e) q)) (λ _. q)
 
   map-octets : (ls : List (List ℕ)) → AllOctets ls → AllOctets (map (strip ind) ls)
   map-octets [] os = tt
@@ -95,7 +95,7 @@ unfolding unindent
 unindent-octets s o =
     let r = lines-octets [] s o in
     let i = last-octets (first s) (others s) (r .0) (r .1) in
-    pick-case (λ (t : List ℕ). Octets t) (blank 0 (lastOf (first s) (others s)))
+    pick-case Octets (blank 0 (lastOf (first s) (others s)))
     (λ _.
     join-octets (map (strip (lastOf (first s) (others s))) (initOf (first s) (others s)))
     (map-octets (lastOf (first s) (others s)) i (initOf (first s) (others s)) (init-octets (first s) (others s) (r .0) (r .1))))
@@ -105,9 +105,9 @@ unlead-octets : (s : List ℕ) → Octets s → Octets (unlead s)
 unfolding unlead
 unlead-octets [] o = o
 unlead-octets (x ∷ s) o =
-    pick-case (λ (t : List ℕ). Octets t) (eqb x 0x0A) (λ e. ascii-rest x s (omega (arith, eqb-true x 0x0A e)) o) (λ _. o)
+    pick-case Octets (eqb x 0x0A) (λ e. ascii-rest x s (omega (arith, eqb-true x 0x0A e)) o) (λ _. o)
 
-pub dedent-octets : (raw : List ℕ) → Octets raw → Octets (dedent raw)
+dedent-octets : (raw : List ℕ) → Octets raw → Octets (dedent raw)
 unfolding dedent
 dedent-octets raw o = unindent-octets (unlead raw) (unlead-octets raw o)
 
@@ -139,11 +139,10 @@ raw-octets : (s : List ℕ) → quotes s ≡ true → Octets s → Octets (rawBy
 unfolding rawBytes rawSize
 raw-octets s q o = until-octets (drop 3 s) (content s q o)
 
-open-octets : (m : Mode) (s : List ℕ) → quotes s ≡ true → Octets s → Octets (openBytes m s)
+open-octets : (m : Mode) (s : List ℕ) → quotes s ≡ true → Octets s → Octets (openTripleBytes m s)
 open-octets Strict s q o = none
 open-octets Tolerant s q o = dedent-octets (rawBytes s) (raw-octets s q o)
 
 pub triple-utf8 : (m : Mode) (s : List ℕ) → Octets s → quotes s ≡ true → Octets (tripleBytes m s)
 unfolding tripleBytes
-triple-utf8 m s o q =
-    pick-case (λ (t : List ℕ). Octets t) (closed s) (λ _. dedent-octets (rawBytes s) (raw-octets s q o)) (λ _. open-octets m s q o)
+triple-utf8 m s o q = pick-case Octets (closed s) (λ _. dedent-octets (rawBytes s) (raw-octets s q o)) (λ _. open-octets m s q o)

@@ -3,6 +3,7 @@
 use mathlib.Core.Bool.{Bool, true, false, _&&_}
 use mathlib.Core.List.{List, [], _∷_, _++_, map}
 use Prim.Native.Nat.{ℕ, zero, suc}
+use Prim.Native.Char.{code}
 use lib.Dec.{eqb}
 use lib.ListN.{length, drop}
 use Rattle.base.specs.Choice.{pick}
@@ -13,21 +14,17 @@ use Rattle.utf8.specs.Character.{whiteSize}
 -- the bytes before the first newline
 unfoldable pub first : List ℕ → List ℕ
 first [] = []
-first (x ∷ xs) = pick (eqb x 0x0A) [] (x ∷ first xs)
+first (x ∷ xs) = pick (eqb x (code "\n")) [] (x ∷ first xs)
 
 -- the lines after the first newline
 unfoldable pub others : List ℕ → List (List ℕ)
 others [] = []
-others (x ∷ xs) = pick (eqb x 0x0A) (first xs ∷ []) [] ++ others xs
-
--- split at each newline
-abbrev pub lines : List ℕ → List (List ℕ)
-lines s = first s ∷ others s
+others (x ∷ xs) = pick (eqb x (code "\n")) (first xs ∷ []) [] ++ others xs
 
 -- a newline before each line
 abbrev pub joinRest : List (List ℕ) → List ℕ
 joinRest [] = []
-joinRest (l ∷ ls) = 0x0A ∷ (l ++ joinRest ls)
+joinRest (l ∷ ls) = code "\n" ∷ (l ++ joinRest ls)
 
 -- the lines with a newline between each two
 abbrev pub join : List (List ℕ) → List ℕ
@@ -72,7 +69,7 @@ strip indent line = pick (prefix indent line) (drop (length indent) line) line
 -- one leading newline dropped
 unfoldable pub unlead : List ℕ → List ℕ
 unlead [] = []
-unlead (x ∷ xs) = pick (eqb x 0x0A) xs (x ∷ xs)
+unlead (x ∷ xs) = pick (eqb x (code "\n")) xs (x ∷ xs)
 
 -- the lines without the indent, their last one, where that is blank; else the text as it is
 abbrev pub byLines : List ℕ → List (List ℕ) → List ℕ → List ℕ

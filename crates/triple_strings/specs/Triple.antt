@@ -2,6 +2,7 @@
 use mathlib.Core.Bool.{Bool, _&&_}
 use mathlib.Core.List.{List, [], _∷_}
 use Prim.Native.Nat.{ℕ, suc, _+_, _-_}
+use Prim.Native.Char.{code}
 use lib.Dec.{leb, ltb, eqb}
 use lib.ListN.{length, take, drop}
 use Rattle.base.specs.Choice.{pick}
@@ -15,9 +16,11 @@ use Rattle.lexeme.specs.declared.Mode.{Mode}
 use Rattle.lexeme.specs.declared.Mode.the-variants.{Strict, Tolerant}
 use Rattle.triple_strings.specs.Dedent.{dedent}
 
+-- Types that other files explain: `TokenKind` in token/specs/Kind.antt; `Lexeme`, `Mode` in lexeme/specs/Lexeme.antt.
+
 -- three quotes at the front; past the end `byte` gives 0
 unfoldable pub quotes : List ℕ → Bool
-quotes l = eqb (byte l 0) 0x22 && (eqb (byte l 1) 0x22 && eqb (byte l 2) 0x22)
+quotes l = eqb (byte l 0) (code "\"") && (eqb (byte l 1) (code "\"") && eqb (byte l 2) (code "\""))
 
 -- how many bytes stand before the first three quotes, or all of them
 unfoldable pub untilQuotes : List ℕ → ℕ
@@ -50,19 +53,19 @@ unfoldable pub lexTripleString : Mode → List ℕ → Lexeme
 lexTripleString m s = pick (closed s) (extent K.String (rawSize s + 6) 0 (length (dedent (rawBytes s))) 0) (openTriple m s)
 
 -- the bytes of an open one: an Illegal has none
-abbrev pub openBytes : Mode → List ℕ → List ℕ
-openBytes Strict s = []
-openBytes Tolerant s = dedent (rawBytes s)
+abbrev pub openTripleBytes : Mode → List ℕ → List ℕ
+openTripleBytes Strict s = []
+openTripleBytes Tolerant s = dedent (rawBytes s)
 
 -- the bytes that go to the string buffer
 unfoldable pub tripleBytes : Mode → List ℕ → List ℕ
-tripleBytes m s = pick (closed s) (dedent (rawBytes s)) (openBytes m s)
+tripleBytes m s = pick (closed s) (dedent (rawBytes s)) (openTripleBytes m s)
 
 -- the report of an open one, at its start
-abbrev pub openNotes : Mode → List Note
-openNotes Strict = []
-openNotes Tolerant = noteAtStart reasons.openTripleString ∷ []
+abbrev pub openTripleNotes : Mode → List Note
+openTripleNotes Strict = []
+openTripleNotes Tolerant = noteAtStart reasons.openTripleString ∷ []
 
 -- its reports
 unfoldable pub tripleNotes : Mode → List ℕ → List Note
-tripleNotes m s = pick (closed s) [] (openNotes m)
+tripleNotes m s = pick (closed s) [] (openTripleNotes m)

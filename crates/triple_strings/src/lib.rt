@@ -1,5 +1,5 @@
 // Triple-quoted strings: where they end, and their dedent.
-pub mod dedent;
+mod dedent;
 pub mod lex;
-pub mod lines;
+mod lines;
 pub mod quotes;

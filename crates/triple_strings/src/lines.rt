@@ -34,7 +34,7 @@ pub fn last_line(t: &[u8]) -> usize
 }
 
 // `t` begins with `p`.
-pub fn starts_with(t: &[u8], p: &[u8]) -> bool
+fn starts_with(t: &[u8], p: &[u8]) -> bool
     ensures { λ r. ⌜ r ≡ prefix (now (p .entry)) (now (t .entry)) ⌝ }
 {
     if t.len() < p.len() {

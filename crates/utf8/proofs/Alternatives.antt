@@ -1,5 +1,5 @@
--- A table of alternatives, of which each octet can begin one at most: what matches an alternative is what the reader finds. By induction on
--- the table and on the ranges. Assumes nothing.
+-- For Chars and Leads: a table of alternatives, of which each octet can begin one at most. What matches an alternative is what the reader finds. By
+-- induction on the table and on the ranges. Assumes nothing.
 use mathlib.Core.Path.{_≡_, refl, ap, sym, _∙_}
 use mathlib.Core.Bool.{Bool, true, false, _&&_}
 use mathlib.Core.List.{List, [], _∷_, _++_, List·Memᴰ, List·Memᴰ·head, List·Memᴰ·tail, List·Memᴰ·not-nil, List·Memᴰ·cases-cons}
@@ -9,9 +9,8 @@ use native.Mathlib.Omega.{arith}
 use borrow.Author.Tests.{leb-true}
 use lib.Dec.{leb}
 use lib.ListN.{length, take}
-use Rattle.base.specs.Choice.{pick}
 use Rattle.base.specs.Bytes.{byte, within}
-use Rattle.base.proofs.Tests.{and-left, and-right, true-false, inside, over, under, within-low, within-high}
+use Rattle.base.proofs.Tests.{and-left, and-right, by-cases, true-false, inside, over, under, within-low, within-high}
 use Rattle.utf8.specs.Grammar.{Range, Matches, done, next, begins, firstOf}
 
 pub matches-length : {rs : List Range} {c : List ℕ} → Matches rs c → length c ≡ length rs
@@ -45,14 +44,9 @@ pub record Found (rss : List (List Range)) (s : List ℕ) (n : ℕ) : Type 0 whe
 
 pub first-found : (rss : List (List Range)) (s : List ℕ) (n : ℕ) → firstOf rss s ≡ suc n → Found rss s (suc n)
 first-found [] s n e = absurd (omega arith)
-first-found (rs ∷ rss) s n e = go (begins rs s) refl e (first-found rss s n)
-  where
-    go : (b : Bool) → begins rs s ≡ b → pick b (length rs) (firstOf rss s) ≡ suc n → (firstOf rss s ≡ suc n → Found rss s (suc n))
-        → Found (rs ∷ rss) s (suc n)
-    go true q e ih = record { rs = rs; among = List·Memᴰ·head refl; fits = q; size = e }
-    go false q e ih =
-        let f = ih e in
-        record { rs = f .rs; among = List·Memᴰ·tail (f .among); fits = f .fits; size = f .size }
+first-found (rs ∷ rss) s n e =
+    by-cases (begins rs s) (λ q. record { rs = rs; among = List·Memᴰ·head refl; fits = q; size = rw q at e })
+    (λ q. let f = first-found rss s n (rw q at e) in record { rs = f .rs; among = List·Memᴰ·tail (f .among); fits = f .fits; size = f .size })
 
 -- the first octets rise from n on, so that each begins one alternative at most
 abbrev pub rising : ℕ → List (List Range) → Bool
@@ -107,8 +101,9 @@ pub found-first : (n : ℕ) (rss : List (List Range)) {rs : List Range} (s : Lis
 found-first n [] s e m f = absurd (List·Memᴰ·not-nil m)
 found-first n ([] ∷ rss) s e m f = true-false false e refl
 found-first n ((r ∷ q) ∷ rss) {rs} s e m f =
+    let on = rises-on n r q rss e in
     ⊎-elim (λ p. let g : begins (r ∷ q) s ≡ true = rw p at f in rw g (ap length (sym p)))
-    (λ (k : List·Memᴰ rs rss). rw (begins-over r q s (found-low (suc (r .hi)) rss s (rises-on n r q rss e) k f)) (found-first (suc (r .hi)) rss s (rises-on n r q rss e) k f))
+    (λ (k : List·Memᴰ rs rss). rw (begins-over r q s (found-low (suc (r .hi)) rss s on k f)) (found-first (suc (r .hi)) rss s on k f))
     (List·Memᴰ·cases-cons m)
 
 -- a test that each alternative passes

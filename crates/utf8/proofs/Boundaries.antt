@@ -1,5 +1,5 @@
--- Boundaries, the offsets from which a text is UTF-8 to its end: how one is reached from another, and that they are the offsets that are not
--- inside a character. Assumes nothing.
+-- For scan, strings, triple_strings, lexer and reading: boundaries, the offsets from which a text is UTF-8 to its end. How one is reached from another, and
+-- that they are the offsets not inside a character. By induction on the characters. Assumes nothing.
 use mathlib.Core.Path.{_≡_, refl, _∙_}
 use mathlib.Core.Bool.{Bool, true, false}
 use mathlib.Core.List.{List, _++_}
@@ -9,16 +9,17 @@ use native.Mathlib.Omega.{arith}
 use borrow.Author.Tests.{ltb-true, ltb-false, leb-true, leb-false}
 use lib.Dec.{ltb, leb}
 use lib.ListN.{length, take, drop, length-append, length-drop, List·getD-append, List·getD-eq-default}
-use lib.Seq.{drop-cons, length-take-le, getD-drop, getD-take, take-nil, drop-nil, drop-drop, take-append-add, drop-append-add, getD-append-add}
+use lib.Seq.{drop-cons, getD-drop, take-nil, drop-nil, drop-drop, take-append-add, drop-append-add, getD-append-add}
 use Rattle.base.specs.Bytes.{byte}
 use Rattle.base.specs.Runs.{reach}
 use Rattle.base.proofs.Reaches.{reach-ge, reach-le, reach-fails}
 use Rattle.base.proofs.Walks.{past-step}
-use Rattle.base.proofs.Tests.{true-false}
-use Rattle.utf8.specs.Grammar.{Octets, none, more, charSize, validTo, Boundary}
+use Rattle.base.proofs.Tests.{by-cases, true-false}
+use Rattle.utf8.specs.Grammar.{Octets, none, more, charSize, validTo}
+use Rattle.utf8.specs.Onward.{Boundary}
 use Rattle.utf8.specs.Check.{isTail, insideChar, inTails, charEnd}
 use Rattle.utf8.proofs.Runs.{reach-past}
-use Rattle.utf8.proofs.Chars.{ascii-size, char-of-size, size-le, char-shape}
+use Rattle.utf8.proofs.Chars.{ascii-size, size-le, char-shape}
 use Rattle.utf8.proofs.Valid.{past-valid, octets-valid, valid-octets, valid-split}
 
 -- a boundary is in the text, and the rest from it is UTF8-octets; and so the other way
@@ -53,16 +54,6 @@ pub reach-boundary : (p : ℕ → ℕ → Bool) → ((a b : ℕ) → p a b ≡ t
 unfolding Boundary
 reach-boundary p low s i b = reach-past p low s i ∙ b
 
--- every byte of a character after its first is a tail byte
-pub tailed : (s : List ℕ) (m : ℕ) → 0 < m → m < charSize s → isTail (byte s m) ≡ true
-tailed s m p h = go (charSize s) refl h
-  where
-    go : (n : ℕ) → charSize s ≡ n → m < n → isTail (byte s m) ≡ true
-    go zero e h = absurd (omega arith)
-    go (suc n) e h =
-        let l : length (take (suc n) s) ≡ suc n = length-take-le (suc n) s (omega (arith, size-le s)) in
-        rw (getD-take (suc n) s m 0 h) at (char-shape (char-of-size s n e) .tailed m p (omega arith))
-
 -- a well-formed text begins with no tail byte
 lead-first : {s : List ℕ} → Octets s → isTail (byte s 0) ≡ false
 unfolding isTail
@@ -72,31 +63,23 @@ lead-first (more {c} {s} h o) = let k = char-shape h in rw (List·getD-append c 
 -- where no tail byte stands, a well-formed text falls in two that are well formed
 pub octets-cut : {s : List ℕ} → Octets s → (i : ℕ) → i ≤ length s → isTail (byte s i) ≡ false → Octets (take i s) × Octets (drop i s)
 octets-cut none i h e = (rw (take-nil i) none, rw (drop-nil i) none)
-octets-cut (more {c} {s} q o) i h e = go (leb (length c) i) refl (λ l f. octets-cut o (i - length c) l f)
+octets-cut (more {c} {s} q o) i h e =
+    by-cases (leb (length c) i) (λ t. let l = leb-true (length c) i t in
+    let j : length c + (i - length c) ≡ i = omega arith in
+    let r = octets-cut o (i - length c) (omega (arith, length-append c s)) (rw (← j, getD-append-add c s (i - length c) 0) at e) in
+    (rw (← j, take-append-add c s (i - length c)) (more q (r .0)), rw (← j, drop-append-add c s (i - length c)) (r .1)))
+    (λ t. within-char i (leb-false (length c) i t) e)
   where
     within-char : (m : ℕ) → m < length c → isTail (byte (c ++ s) m) ≡ false → Octets (take m (c ++ s)) × Octets (drop m (c ++ s))
     within-char zero l f = (none, more q o)
     within-char (suc m) l f =
         true-false (isTail (byte (c ++ s) (suc m))) (rw (List·getD-append c s 0 (suc m) l) (char-shape q .tailed (suc m) (omega arith) l)) f
 
-    go : (b : Bool) → leb (length c) i ≡ b
-        → (i - length c ≤ length s → isTail (byte s (i - length c)) ≡ false → Octets (take (i - length c) s) × Octets (drop (i - length c) s))
-        → Octets (take i (c ++ s)) × Octets (drop i (c ++ s))
-    go true t ih =
-        let l = leb-true (length c) i t in
-        let j : length c + (i - length c) ≡ i = omega arith in
-        let r = ih (omega (arith, length-append c s)) (rw (← j, getD-append-add c s (i - length c) 0) at e) in
-        (rw (← j, take-append-add c s (i - length c)) (more q (r .0)), rw (← j, drop-append-add c s (i - length c)) (r .1))
-    go false t ih = within-char i (leb-false (length c) i t) e
-
 -- past the end stands no tail byte
 no-tail : (s : List ℕ) (j : ℕ) → (j < length s → isTail (byte s j) ≡ false) → isTail (byte s j) ≡ false
 unfolding isTail
-no-tail s j stop = go (ltb j (length s)) refl
-  where
-    go : (b : Bool) → ltb j (length s) ≡ b → isTail (byte s j) ≡ false
-    go true t = stop (ltb-true j (length s) t)
-    go false t = rw (List·getD-eq-default s 0 (ltb-false j (length s) t))
+no-tail s j stop =
+    by-cases (ltb j (length s)) (λ t. stop (ltb-true j (length s) t)) (λ t. rw (List·getD-eq-default s 0 (ltb-false j (length s) t)))
 
 -- any later offset at which no tail byte stands is a boundary too
 pub boundary-at : (s : List ℕ) (j : ℕ) → j ≤ length s → (j < length s → isTail (byte s j) ≡ false) → (i : ℕ) → i ≤ j → Boundary s i → Boundary s j

@@ -1,4 +1,5 @@
--- The reader's `charSize` and the rule UTF8-char say the same; what follows for the octets of a character. Assumes nothing.
+-- For most files here: the reader's `charSize` and the rule UTF8-char say the same, and what follows for the octets of a character. From Alternatives,
+-- and by tests of the table. Assumes nothing.
 use mathlib.Core.Path.{_≡_, refl, sym, _∙_}
 use mathlib.Core.Bool.{Bool, true, false, _&&_}
 use mathlib.Core.List.{List, [], _∷_, _++_}
@@ -10,8 +11,8 @@ use lib.Dec.{leb, ltb, eqb, lit<}
 use lib.ListN.{length, take}
 use lib.Seq.{getD-take, length-take-le}
 use Rattle.base.specs.Choice.{pick}
-use Rattle.base.specs.Bytes.{byte, within}
-use Rattle.base.proofs.Tests.{and-left, and-right, true-false, inside, over, under}
+use Rattle.base.specs.Bytes.{byte}
+use Rattle.base.proofs.Tests.{and-left, and-right, by-cases, true-false, inside, over, under}
 use Rattle.utf8.specs.Grammar.{Range, utf8-char, Matches, done, next, Char, char, charSize}
 use Rattle.utf8.specs.Check.{isTail}
 use Rattle.utf8.proofs.Alternatives.{matches-length, matches-begins, begins-matches, begins-length, Found, first-found, found-first, every-at}
@@ -45,10 +46,10 @@ abbrev tails : List Range → Bool
 tails [] = true
 tails (r ∷ rs) = (leb 0x80 (r .lo) && leb (r .hi) 0xBF) && tails rs
 
--- an alternative: an ASCII octet, or one above UTF8-tail and then at most three that are UTF8-tails
+-- an alternative: an ASCII octet, or one above UTF8-tail and then UTF8-tails
 abbrev formed : List Range → Bool
 formed [] = false
-formed (r ∷ rs) = (pick (eqb (length rs) 0) (ltb (r .hi) 0x80) (ltb 0xBF (r .lo)) && leb (length rs) 3) && tails rs
+formed (r ∷ rs) = pick (eqb (length rs) 0) (ltb (r .hi) 0x80) (ltb 0xBF (r .lo)) && tails rs
 
 tails-at : {rs : List Range} {c : List ℕ} (m : ℕ) → tails rs ≡ true → Matches rs c → m < length c → isTail (byte c m) ≡ true
 unfolding isTail
@@ -61,10 +62,9 @@ tails-at zero e (next {r = r} {rs = rs} {b = b} l u q) h =
 tails-at (suc m) e (next {r = r} {rs = rs} l u q) h =
     tails-at m (and-right (leb 0x80 (r .lo) && leb (r .hi) 0xBF) (tails rs) e) q (le-of-suc-le-suc h)
 
--- the octets of a character: 1 to 4, of which the first is no UTF8-tail and each other one is; a single one is ASCII
+-- the octets of a character: the first is no UTF8-tail and each other one is; a single one is ASCII
 pub record CharShape (c : List ℕ) : Type 0 where
   pub some : 0 < length c
-  pub few : length c ≤ 4
   pub lead : isTail (byte c 0) ≡ false
   pub tailed : (m : ℕ) → 0 < m → m < length c → isTail (byte c m) ≡ true
   pub single : length c ≡ 1 → byte c 0 < 0x80
@@ -73,11 +73,9 @@ pub record CharShape (c : List ℕ) : Type 0 where
 module _ (r : Range) (n b : ℕ) (e : pick (eqb n 0) (ltb (r .hi) 0x80) (ltb 0xBF (r .lo)) ≡ true) (l : r .lo ≤ b) (h : b ≤ r .hi) where
   lead-octet : isTail b ≡ false
   unfolding isTail
-  lead-octet = go (eqb n 0) e
-    where
-      go : (z : Bool) → pick z (ltb (r .hi) 0x80) (ltb 0xBF (r .lo)) ≡ true → within 0x80 0xBF b ≡ false
-      go true q = under 0x80 0xBF b (omega (arith, ltb-true (r .hi) 0x80 q))
-      go false q = over 0x80 0xBF b (omega (arith, ltb-true 0xBF (r .lo) q))
+  lead-octet =
+      by-cases (eqb n 0) (λ z. under 0x80 0xBF b (omega (arith, ltb-true (r .hi) 0x80 (rw z at e))))
+      (λ z. over 0x80 0xBF b (omega (arith, ltb-true 0xBF (r .lo) (rw z at e))))
 
   single-octet : n ≡ 0 → b < 0x80
   single-octet z =
@@ -88,14 +86,11 @@ matched : {rs : List Range} {c : List ℕ} → formed rs ≡ true → Matches rs
 matched e done = true-false false e refl
 matched e (next {r = r} {rs = rs} {b = b} {s = s} l u q) =
     let x : Bool = pick (eqb (length rs) 0) (ltb (r .hi) 0x80) (ltb 0xBF (r .lo)) in
-    let k : Bool = leb (length rs) 3 in
-    let f = and-left (x && k) (tails rs) e in
-    let g = and-left x k f in
+    let g = and-left x (tails rs) e in
     record {
       some = omega arith;
-      few = omega (arith, matches-length q, leb-true (length rs) 3 (and-right x k f));
       lead = lead-octet r (length rs) b g l u;
-      tailed = after (and-right (x && k) (tails rs) e);
+      tailed = after (and-right x (tails rs) e);
       single = λ z. single-octet r (length rs) b g l u (omega (arith, matches-length q));
     }
   where
@@ -111,15 +106,6 @@ char-shape (char a m) = matched (every-at formed utf8-char refl a) m
 pub ascii-size : (a : ℕ) (s : List ℕ) → a < 0x80 → charSize (a ∷ s) ≡ 1
 unfolding charSize
 ascii-size a s h = rw (inside 0 0x7F a (omega arith) (omega arith))
-
--- ---- bounds
-
-pub size-few : (s : List ℕ) → charSize s ≤ 4
-size-few s = go (charSize s) refl
-  where
-    go : (n : ℕ) → charSize s ≡ n → n ≤ 4
-    go zero e = zero-le
-    go (suc n) e = omega (arith, char-shape (char-of-size s n e) .few, length-take-le (suc n) s (omega (arith, size-le s)))
 
 -- a character of one octet is ASCII
 pub size-single : (s : List ℕ) → charSize s ≡ 1 → byte s 0 < 0x80

@@ -1,4 +1,4 @@
--- Characters and code points: what `decode`, `is_white` and `white_size` return, and bounds. Assumes nothing.
+-- For `decode`, `is_white`, `white_size`, and scan and triple_strings: what they return, and bounds. By rewriting and by cases on the size. Assumes nothing.
 use mathlib.Core.Path.{_≡_, ap, sym}
 use mathlib.Core.Bool.{Bool, true, false, _||_, or-assoc, or-false}
 use mathlib.Core.List.{List, [], _∷_}

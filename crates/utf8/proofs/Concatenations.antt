@@ -1,4 +1,5 @@
--- Well-formed texts one after the other, and what is left after one of them; an ASCII byte is one. Assumes nothing.
+-- For strings and triple_strings: well-formed texts one after the other, and what is left after one of them; an ASCII byte is one. By the length of the
+-- valid prefix. Assumes nothing.
 use mathlib.Core.Path.{_≡_}
 use mathlib.Core.Bool.{false}
 use mathlib.Core.List.{List, [], _∷_, _++_}

@@ -1,5 +1,5 @@
--- What the first octet of a character wants after it: the count of its leading one bits agrees with the grammar at each of the 256 bytes, by
--- one test that antt computes; and the reader's `charSize` goes by it. Assumes nothing.
+-- For `length_of`, `lead`, Sizes, States and Settles: what the first octet of a character wants after it. The count of its leading one bits agrees with the
+-- grammar at each of the 256 bytes, by one test that antt computes; and the reader's `charSize` goes by it. Assumes nothing.
 use mathlib.Core.Path.{_≡_, refl}
 use mathlib.Core.Bool.{Bool, true, false, _&&_, _||_}
 use mathlib.Core.List.{List, [], _∷_}
@@ -11,7 +11,7 @@ use lib.Count.{leadingZeros}
 use lib.ListN.{length}
 use Rattle.base.specs.Choice.{pick}
 use Rattle.base.specs.Bytes.{within}
-use Rattle.base.proofs.Tests.{and-left, and-right, both-left, both-right, true-false, pick-case, inside, within-high}
+use Rattle.base.proofs.Tests.{and-left, and-right, by-cases, both-left, both-right, true-false, pick-case, inside, within-high}
 use Rattle.base.proofs.Tables.{all-below}
 use Rattle.utf8.specs.Grammar.{Range, utf8-char, begins, firstOf, charSize}
 use Rattle.utf8.specs.State.{wants, ill, fresh, afterFirst, afterLead, leadOf, lengthOf}
@@ -25,12 +25,9 @@ same s t = eqb (s .need) (t .need) && (eqb (s .lo) (t .lo) && eqb (s .hi) (t .hi
 
 same-state : (s t : State) → T (same s t) → s ≡ t
 same-state s t h =
-    let n : Bool = eqb (s .need) (t .need) in
-    let l : Bool = eqb (s .lo) (t .lo) in
-    let u : Bool = eqb (s .hi) (t .hi) in
-    let e₁ : s .need ≡ t .need = eqb→eq _ _ (both-left n (l && u) h) in
-    let e₂ : s .lo ≡ t .lo = eqb→eq _ _ (both-left l u (both-right n (l && u) h)) in
-    let e₃ : s .hi ≡ t .hi = eqb→eq _ _ (both-right l u (both-right n (l && u) h)) in
+    let e₁ : s .need ≡ t .need = search (both-left, eqb→eq) in
+    let e₂ : s .lo ≡ t .lo = search (both-left, both-right, eqb→eq) in
+    let e₃ : s .hi ≡ t .hi = search (both-left, both-right, eqb→eq) in
     λ i. record { need = e₁ i; lo = e₂ i; hi = e₃ i }
 
 -- the count of leading one bits is the length
@@ -133,14 +130,11 @@ first-size : (n : ℕ) (rss : List (List Range)) (a : ℕ) (xs : List ℕ) → r
 first-size n [] a xs e f = refl
 first-size n ([] ∷ rss) a xs e f = true-false false e refl
 first-size n ((r ∷ rs) ∷ rss) a xs e f =
-    go (within (r .lo) (r .hi) a) refl (first-size (suc (r .hi)) rss a xs (rises-on n r rs rss e) (and-right (shaped rs) (every shapedRow rss) f))
-  where
-    go : (b : Bool) → within (r .lo) (r .hi) a ≡ b → firstOf rss (a ∷ xs) ≡ sizeAfter (afterLead rss a) xs
-        → pick (b && begins rs xs) (suc (length rs)) (firstOf rss (a ∷ xs)) ≡ sizeAfter (pick b (afterFirst rs) (afterLead rss a)) xs
-    go true w ih =
-        rw (first-under (suc (r .hi)) rss a xs (rises-on n r rs rss e) (omega (arith, within-high (r .lo) (r .hi) a w)))
-        (shaped-size rs xs (and-left (shaped rs) (every shapedRow rss) f))
-    go false w ih = ih
+    let on = rises-on n r rs rss e in
+    by-cases (within (r .lo) (r .hi) a)
+    (λ w. rw (w, first-under (suc (r .hi)) rss a xs on (omega (arith, within-high (r .lo) (r .hi) a w)))
+    (shaped-size rs xs (and-left (shaped rs) (every shapedRow rss) f)))
+    (λ w. rw w (first-size (suc (r .hi)) rss a xs on (and-right (shaped rs) (every shapedRow rss) f)))
 
 pub lead-size : (a : ℕ) (xs : List ℕ) → charSize (a ∷ xs) ≡ sizeAfter (leadOf a) xs
 unfolding charSize leadOf

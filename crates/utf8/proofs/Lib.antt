@@ -1,15 +1,15 @@
-pub mod Alternatives
+mod Alternatives
 pub mod Chars
-pub mod Runs
+mod Runs
 pub mod Valid
 pub mod Concatenations
 pub mod Boundaries
-pub mod Leads
-pub mod Sizes
+mod Leads
+mod Sizes
 pub mod States
 pub mod Settles
-pub mod Scans
-pub mod Shorts
+mod Scans
+mod Shorts
 pub mod Codes
 pub mod RoundTrip
-pub mod Cases
+mod Cases

@@ -1,7 +1,7 @@
--- A code point that is encoded and decoded again is the same: its octets are a character, and their free bits are the number. By the ranges of
--- the table of RFC 3629, section 3. Assumes nothing.
+-- The round trip, a result of its own: a code point that is encoded and decoded again is the same. Its octets are a character, and their free bits are the
+-- number. By the ranges of the table of RFC 3629, section 3. Assumes nothing.
 use mathlib.Core.Path.{_≡_, refl}
-use mathlib.Core.Bool.{Bool, true, false, not}
+use mathlib.Core.Bool.{true, false, not}
 use mathlib.Core.List.{List, [], _∷_, _++_, List·Memᴰ, List·Memᴰ·head, List·Memᴰ·tail}
 use Prim.Native.Nat.{ℕ, zero, suc, _+_, _*_, _/_, _%_, _≤_, _<_}
 use native.Mathlib.Nat.{le-of-suc-le-suc, not-suc-le-zero}
@@ -10,7 +10,7 @@ use borrow.Author.Tests.{ltb-true, ltb-false, leb-true, leb-false, le-leb, not-t
 use lib.Dec.{T, ltb, leb, ltb→lt}
 use lib.ListN.{length, getD}
 use Rattle.base.specs.Bytes.{within}
-use Rattle.base.proofs.Tests.{and-left, and-right, pick-case}
+use Rattle.base.proofs.Tests.{and-left, and-right, by-cases, pick-case}
 use Rattle.utf8.specs.Grammar.{Range, range, tail, utf8-char, Matches, done, next, Char, char, charSize}
 use Rattle.utf8.specs.Character.{codeBits, decodeOf, isScalar, encodeOf}
 use Rattle.utf8.proofs.Chars.{size-of-char}
@@ -52,46 +52,29 @@ module _ (r : ℕ) where
 
   three : 0x800 ≤ r → r < 0x10000 → within 0xD800 0xDFFF r ≡ false → Char ((0xE0 + r / 4096) ∷ (0x80 + r / 64 % 64) ∷ (0x80 + r % 64) ∷ [])
   unfolding utf8-char
-  three l h n = go (ltb r 0x1000) (ltb r 0xD000) (ltb r 0xD800) refl refl refl
-    where
-      go : (a b c : Bool) → ltb r 0x1000 ≡ a → ltb r 0xD000 ≡ b → ltb r 0xD800 ≡ c
-          → Char ((0xE0 + r / 4096) ∷ (0x80 + r / 64 % 64) ∷ (0x80 + r % 64) ∷ [])
-      go true b c u v w =
-          let k = ltb-true r 0x1000 u in
-          of-row 2 _ tt (octet 0xE0 0xE0 (0xE0 + r / 4096) (omega arith) (omega arith)
-          (octet 0xA0 0xBF (0x80 + r / 64 % 64) (omega arith) (omega arith) (six r done)))
-      go false true c u v w =
-          let j = ltb-false r 0x1000 u in
-          let k = ltb-true r 0xD000 v in
-          of-row 3 _ tt (octet 0xE1 0xEC (0xE0 + r / 4096) (omega arith) (omega arith) (six (r / 64) (six r done)))
-      go false false true u v w =
-          let j = ltb-false r 0xD000 v in
-          let k = ltb-true r 0xD800 w in
-          of-row 4 _ tt (octet 0xED 0xED (0xE0 + r / 4096) (omega arith) (omega arith)
-          (octet 0x80 0x9F (0x80 + r / 64 % 64) (omega arith) (omega arith) (six r done)))
-      go false false false u v w =
-          let j = ltb-false r 0xD800 w in
-          let k : 0xE000 ≤ r = leb-false r 0xDFFF (rw (le-leb 0xD800 r j) at n) in
-          of-row 5 _ tt (octet 0xEE 0xEF (0xE0 + r / 4096) (omega arith) (omega arith) (six (r / 64) (six r done)))
+  three l h n =
+      by-cases (ltb r 0x1000) (λ u. let k = ltb-true r 0x1000 u in
+      of-row 2 _ tt (octet 0xE0 0xE0 (0xE0 + r / 4096) (omega arith) (omega arith)
+      (octet 0xA0 0xBF (0x80 + r / 64 % 64) (omega arith) (omega arith) (six r done))))
+      (λ u. let j = ltb-false r 0x1000 u in by-cases (ltb r 0xD000) (λ v. let k = ltb-true r 0xD000 v in
+      of-row 3 _ tt (octet 0xE1 0xEC (0xE0 + r / 4096) (omega arith) (omega arith) (six (r / 64) (six r done))))
+      (λ v. let k = ltb-false r 0xD000 v in by-cases (ltb r 0xD800) (λ w. let q = ltb-true r 0xD800 w in
+      of-row 4 _ tt (octet 0xED 0xED (0xE0 + r / 4096) (omega arith) (omega arith)
+      (octet 0x80 0x9F (0x80 + r / 64 % 64) (omega arith) (omega arith) (six r done))))
+      (λ w. let q : 0xE000 ≤ r = leb-false r 0xDFFF (rw (le-leb 0xD800 r (ltb-false r 0xD800 w)) at n) in
+      of-row 5 _ tt (octet 0xEE 0xEF (0xE0 + r / 4096) (omega arith) (omega arith) (six (r / 64) (six r done))))))
 
   four : 0x10000 ≤ r → r ≤ 0x10FFFF → Char ((0xF0 + r / 262144) ∷ (0x80 + r / 4096 % 64) ∷ (0x80 + r / 64 % 64) ∷ (0x80 + r % 64) ∷ [])
   unfolding utf8-char
-  four l h = go (ltb r 0x40000) (ltb r 0x100000) refl refl
-    where
-      go : (a b : Bool) → ltb r 0x40000 ≡ a → ltb r 0x100000 ≡ b
-          → Char ((0xF0 + r / 262144) ∷ (0x80 + r / 4096 % 64) ∷ (0x80 + r / 64 % 64) ∷ (0x80 + r % 64) ∷ [])
-      go true b u v =
-          let k = ltb-true r 0x40000 u in
-          of-row 6 _ tt (octet 0xF0 0xF0 (0xF0 + r / 262144) (omega arith) (omega arith)
-          (octet 0x90 0xBF (0x80 + r / 4096 % 64) (omega arith) (omega arith) (six (r / 64) (six r done))))
-      go false true u v =
-          let j = ltb-false r 0x40000 u in
-          let k = ltb-true r 0x100000 v in
-          of-row 7 _ tt (octet 0xF1 0xF3 (0xF0 + r / 262144) (omega arith) (omega arith) (six (r / 4096) (six (r / 64) (six r done))))
-      go false false u v =
-          let j = ltb-false r 0x100000 v in
-          of-row 8 _ tt (octet 0xF4 0xF4 (0xF0 + r / 262144) (omega arith) (omega arith)
-          (octet 0x80 0x8F (0x80 + r / 4096 % 64) (omega arith) (omega arith) (six (r / 64) (six r done))))
+  four l h =
+      by-cases (ltb r 0x40000) (λ u. let k = ltb-true r 0x40000 u in
+      of-row 6 _ tt (octet 0xF0 0xF0 (0xF0 + r / 262144) (omega arith) (omega arith)
+      (octet 0x90 0xBF (0x80 + r / 4096 % 64) (omega arith) (omega arith) (six (r / 64) (six r done)))))
+      (λ u. let j = ltb-false r 0x40000 u in by-cases (ltb r 0x100000) (λ v. let k = ltb-true r 0x100000 v in
+      of-row 7 _ tt (octet 0xF1 0xF3 (0xF0 + r / 262144) (omega arith) (omega arith) (six (r / 4096) (six (r / 64) (six r done)))))
+      (λ v. let k = ltb-false r 0x100000 v in
+      of-row 8 _ tt (octet 0xF4 0xF4 (0xF0 + r / 262144) (omega arith) (omega arith)
+      (octet 0x80 0x8F (0x80 + r / 4096 % 64) (omega arith) (omega arith) (six (r / 64) (six r done))))))
 
 -- the free bits of four octets, six at a time
 low-six : (x : ℕ) → (0x80 + x % 64) % 64 ≡ x % 64
@@ -124,10 +107,10 @@ encodes r e =
     (λ w. let h = scalar-high r e in record { is-char = four r (ltb-false r 0x10000 w) h; bits = λ t. four-bits r h })))
 
 -- the octets of a code point are a character
-pub encode-char : (r : ℕ) → isScalar r ≡ true → Char (encodeOf r)
+encode-char : (r : ℕ) → isScalar r ≡ true → Char (encodeOf r)
 encode-char r e = encodes r e .is-char
 
-pub encode-size : (r : ℕ) (t : List ℕ) → isScalar r ≡ true → charSize (encodeOf r ++ t) ≡ length (encodeOf r)
+encode-size : (r : ℕ) (t : List ℕ) → isScalar r ≡ true → charSize (encodeOf r ++ t) ≡ length (encodeOf r)
 encode-size r t e = size-of-char t (encode-char r e)
 
 -- decoded again they give the code point

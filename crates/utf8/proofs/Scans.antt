@@ -1,6 +1,5 @@
--- The loops of `past_chars` and `check`: from each character to the next the valid prefix stays the same. Assumes nothing.
+-- For `past_chars`, `past_short` and `check`: from each character to the next the valid prefix stays the same. By one step of the run. Assumes nothing.
 use mathlib.Core.Path.{_≡_, refl, sym, _∙_}
-use mathlib.Core.Bool.{Bool, true, false}
 use mathlib.Core.List.{List}
 use Prim.Native.Nat.{ℕ, zero, suc, _+_, _-_, _≤_, _<_, _^_}
 use native.Mathlib.Omega.{arith}
@@ -12,9 +11,10 @@ use mir.Val.{Fits}
 use Rattle.base.specs.Bytes.{byte}
 use Rattle.base.specs.Runs.{reach}
 use Rattle.base.proofs.Reaches.{rest-is, reach-one, reach-ge, reach-le}
+use Rattle.base.proofs.Tests.{by-cases}
 use Rattle.base.proofs.Walks.{past-step, past-stop, past-end}
 use Rattle.utf8.specs.Grammar.{charSize, validTo}
-use Rattle.utf8.specs.Ascii.{ascii}
+use Rattle.utf8.specs.Helpers.{inAscii}
 use Rattle.utf8.specs.Onward.{Onward, Passed}
 use Rattle.utf8.specs.Check.{checkOf, Checked}
 use Rattle.utf8.specs.declared.check.Verdict.the-variants.{WellFormed, IllFormed}
@@ -36,19 +36,19 @@ module _ (s : List ℕ) (at i : ℕ) (u : Onward s at i) where
       let h : i + suc k ≤ length s = omega (arith, size-le (drop i s), length-drop i s) in
       record { later = omega (arith, u .later); inside = h; same = past-step charSize s i k h e ∙ u .same }
 
-  pub run-onward : (r : ℕ) → r ≡ reach ascii s i → Onward s at r
+  pub run-onward : (r : ℕ) → r ≡ reach inAscii s i → Onward s at r
   run-onward r e =
-      let w : Onward s i (reach ascii s i) =
-      record { later = reach-ge ascii s i; inside = reach-le ascii s i (u .inside); same = reach-past ascii (λ a b t. t) s i } in
-      rw e (onward-then s at i (reach ascii s i) u w)
+      let w : Onward s i (reach inAscii s i) =
+      record { later = reach-ge inAscii s i; inside = reach-le inAscii s i (u .inside); same = reach-past inAscii (λ a b t. t) s i } in
+      rw e (onward-then s at i (reach inAscii s i) u w)
 
   module _ (e : ℕ) (h : e ≤ length s) where
     pub passed-end : e ≤ i → Passed s at e i
     passed-end g = record { onward = u; stops = λ l. absurd (omega arith) }
 
     module _ (l : i < e) where
-      pub run-less : (r : ℕ) → r ≡ reach ascii s i → byte s i < 0x80 → length s - r < length s - i
-      run-less r q a = omega (arith, reach-one ascii s i (omega arith) (lt-ltb (byte s i) 0x80 a))
+      pub run-less : (r : ℕ) → r ≡ reach inAscii s i → byte s i < 0x80 → length s - r < length s - i
+      run-less r q a = omega (arith, reach-one inAscii s i (omega arith) (lt-ltb (byte s i) 0x80 a))
 
       module _ (n : ℕ) (c : n ≡ charSize (take (length s - i) (drop i s))) where
         here : n ≡ charSize (drop i s)
@@ -90,8 +90,6 @@ module _ (s : List ℕ) (i : ℕ) (u : Onward s 0 i) where
         checked s (IllFormed r) (rw (q, ne-eqb r (length s) (λ q. omega arith)))
 
     pub scan-less : i < length s → (f < length s → f < e) → e ≤ r → length s - r < length s - i
-    scan-less l g h = go (ltb f (length s)) refl
-      where
-        go : (x : Bool) → ltb f (length s) ≡ x → length s - r < length s - i
-        go true q = omega (arith, g (ltb-true f (length s) q), v .later)
-        go false q = omega (arith, ltb-false f (length s) q, w .onward .later)
+    scan-less l g h =
+        by-cases (ltb f (length s)) (λ q. omega (arith, g (ltb-true f (length s) q), v .later))
+        (λ q. omega (arith, ltb-false f (length s) q, w .onward .later))

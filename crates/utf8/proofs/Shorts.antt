@@ -1,4 +1,4 @@
--- Windows of characters of one or two bytes: each byte, or the place after it where it is a UTF8-tail, is between characters, by one byte
+-- For `past_short`: windows of characters of one or two bytes. Each byte, or the place after it where it is a UTF8-tail, is between characters, by one byte
 -- after the other. Assumes nothing.
 use mathlib.Core.Path.{_≡_, refl, sym, _∙_, ap}
 use mathlib.Core.Bool.{Bool, true, false, not, _&&_}
@@ -17,12 +17,11 @@ use Rattle.base.specs.Bytes.{byte, within}
 use Rattle.base.specs.Runs.{past}
 use Rattle.base.specs.Blocks.{allPass, allPairs}
 use Rattle.base.proofs.Blocks.{over-pairs, ahead-first, ahead-block}
-use Rattle.base.proofs.Tests.{and-left, and-right, true-false, within-low, within-high, over, inside, or-case}
+use Rattle.base.proofs.Tests.{and-left, and-right, by-cases, true-false, within-low, within-high, over, inside, or-case}
 use Rattle.base.proofs.Walks.{past-step}
 use Rattle.utf8.specs.Grammar.{charSize}
-use Rattle.utf8.specs.Ascii.{isAscii, ascii}
+use Rattle.utf8.specs.Helpers.{isAscii, inAscii, inShort}
 use Rattle.utf8.specs.Check.{isTail}
-use Rattle.utf8.specs.Short.{inShort}
 use Rattle.utf8.specs.Onward.{Onward}
 use Rattle.utf8.proofs.Runs.{ascii-past, reach-past}
 
@@ -53,14 +52,10 @@ module _ (a b : ℕ) (e : inShort a b ≡ true) where
 
   is-one : isTail a ≡ false → isTail b ≡ false → a < 0x80
   unfolding isTail
-  is-one n t = go (ltb a 0x80) refl
-    where
-      low : a < 0xC0
-      low = either (λ f v. true-false (isTail b) v t) (λ l v. l)
-
-      go : (x : Bool) → ltb a 0x80 ≡ x → a < 0x80
-      go true q = ltb-true a 0x80 q
-      go false q = true-false (isTail a) (inside 0x80 0xBF a (ltb-false a 0x80 q) (omega (arith, low))) n
+  is-one n t =
+      let low : a < 0xC0 = either (λ f v. true-false (isTail b) v t) (λ l v. l) in
+      by-cases (ltb a 0x80) (λ q. ltb-true a 0x80 q)
+      (λ q. true-false (isTail a) (inside 0x80 0xBF a (ltb-false a 0x80 q) (omega arith)) n)
 
 -- ---- from one byte to the next
 
@@ -69,9 +64,11 @@ module _ (s : List ℕ) where
   abbrev place : ℕ → ℕ
   place i = i + boolByte (isTail (byte s i))
 
-  two-past : (i : ℕ) → i + 1 < length s → within 0xC2 0xDF (byte s i) ≡ true → isTail (byte s (i + 1)) ≡ true → past charSize s (i + 1 + 1) ≡ past charSize s i
+  two-past : (i : ℕ) → i + 1 < length s → within 0xC2 0xDF (byte s i) ≡ true → isTail (byte s (i + 1)) ≡ true
+      → past charSize s (i + 1 + 1) ≡ past charSize s i
   two-past i h e t =
-      let c : drop i s ≡ byte s i ∷ byte s (i + 1) ∷ drop (suc (i + 1)) s = drop-cons s i 0 (omega arith) ∙ rw (← add-one i, drop-cons s (i + 1) 0 h) in
+      let c : drop i s ≡ byte s i ∷ byte s (i + 1) ∷ drop (suc (i + 1)) s =
+      drop-cons s i 0 (omega arith) ∙ rw (← add-one i, drop-cons s (i + 1) 0 h) in
       let q : i + 1 + 1 ≡ i + 2 = omega arith in
       rw q (past-step charSize s i 1 (omega arith) (rw c (two-size (byte s i) (byte s (i + 1)) (drop (suc (i + 1)) s) e t)))
 
@@ -91,8 +88,8 @@ module _ (s : List ℕ) (at i n : ℕ) (u : Onward s at i) (h : n < length s - i
   -- a window of ASCII bytes
   pub ascii-window : (b : Bool) → b ≡ allPass isAscii (take (i + n - i) (drop i s)) → b ≡ true → Onward s at (i + n)
   ascii-window b e y =
-      let a = ahead-block isAscii ascii (λ a b t. t) s i i n (ahead-first ascii s i (u .inside)) (omega arith) b e y in
-      let p = reach-past ascii (λ a b t. t) s in
+      let a = ahead-block isAscii inAscii (λ a b t. t) s i i n (ahead-first inAscii s i (u .inside)) (omega arith) b e y in
+      let p = reach-past inAscii (λ a b t. t) s in
       record { later = omega (arith, u .later); inside = a .inside; same = sym (p (i + n)) ∙ ap (past charSize s) (a .same) ∙ p i ∙ u .same }
 
   -- a window of characters of one or two bytes: it has a byte after it

@@ -1,4 +1,5 @@
--- The size of the character at the front, by its first byte and the bytes after it: each return of `char_size`. Assumes nothing.
+-- For `char_size`, `long_size` and `lead`: the size of the character at the front, by its first byte and the bytes after it, at each return. By cases on the
+-- length. Assumes nothing.
 use mathlib.Core.Path.{_≡_, refl, sym, _∙_}
 use mathlib.Core.Bool.{Bool, true, false, not, _&&_, and-true}
 use mathlib.Core.List.{List, [], _∷_}
@@ -10,7 +11,7 @@ use lib.ListN.{length, drop, length-drop}
 use lib.Seq.{drop-cons}
 use Rattle.base.specs.Choice.{pick}
 use Rattle.base.specs.Bytes.{byte, within}
-use Rattle.base.proofs.Tests.{and-false, within-low, within-high}
+use Rattle.base.proofs.Tests.{and-false, by-cases, within-low, within-high}
 use Rattle.utf8.specs.Grammar.{charSize}
 use Rattle.utf8.specs.Check.{isTail}
 use Rattle.utf8.specs.State.{wants, lengthOf, leadOf, Long}
@@ -65,31 +66,20 @@ bounded a b x lo y hi = pick (eqb a x) (leb lo b) (pick (eqb a y) (leb b hi) tru
 -- a part of UTF8-tail is cut off below, or above
 cut-low : (lo b : ℕ) → 0x80 ≤ lo → within lo 0xBF b ≡ isTail b && leb lo b
 unfolding isTail
-cut-low lo b h = go (leb lo b) refl
-  where
-    go : (x : Bool) → leb lo b ≡ x → x && leb b 0xBF ≡ within 0x80 0xBF b && x
-    go true e = rw (le-leb 0x80 b (omega (arith, leb-true lo b e))) (sym (and-true (leb b 0xBF)))
-    go false e = sym (and-false (within 0x80 0xBF b))
+cut-low lo b h =
+    by-cases (leb lo b) (λ e. simp (e, le-leb 0x80 b (omega (arith, leb-true lo b e)), and-true)) (λ e. simp (e, and-false))
 
 cut-high : (hi b : ℕ) → hi ≤ 0xBF → within 0x80 hi b ≡ isTail b && leb b hi
 unfolding isTail
-cut-high hi b h = go (leb b hi) refl
-  where
-    go : (x : Bool) → leb b hi ≡ x → leb 0x80 b && x ≡ within 0x80 0xBF b && x
-    go true e = simp (le-leb b 0xBF (omega (arith, leb-true b hi e)), and-true)
-    go false e = simp and-false
+cut-high hi b h =
+    by-cases (leb b hi) (λ e. simp (e, le-leb b 0xBF (omega (arith, leb-true b hi e)), and-true)) (λ e. simp (e, and-false))
 
 bounded-tail : (a b x lo y hi : ℕ) → (x ≡ y → ⊥) → 0x80 ≤ lo → hi ≤ 0xBF
     → within (pick (eqb a x) lo 0x80) (pick (eqb a y) hi 0xBF) b ≡ isTail b && bounded a b x lo y hi
 unfolding isTail
-bounded-tail a b x lo y hi d l h = go (eqb a x) (eqb a y) refl refl
-  where
-    go : (p q : Bool) → eqb a x ≡ p → eqb a y ≡ q
-        → within (pick p lo 0x80) (pick q hi 0xBF) b ≡ isTail b && pick p (leb lo b) (pick q (leb b hi) true)
-    go true true e f = absurd (d (sym (eqb-true a x e) ∙ eqb-true a y f))
-    go true false e f = cut-low lo b l
-    go false true e f = cut-high hi b h
-    go false false e f = sym (and-true (within 0x80 0xBF b))
+bounded-tail a b x lo y hi d l h =
+    by-cases (eqb a x) (λ e. let z = eqb-true a x e in rw (e, ne-eqb a y (λ f. d (sym z ∙ f))) (cut-low lo b l))
+    (λ e. by-cases (eqb a y) (λ f. rw (e, f) (cut-high hi b h)) (λ f. rw (e, f, and-true)))
 
 -- ---- each return of `long_size`
 
@@ -174,12 +164,9 @@ module _ (s : List ℕ) (n : ℕ) (q : Long s n) where
 
   -- the length is 2, 3 or 4
   by-length : {X : Type 0} → (n ≡ 2 → X) → (n ≡ 3 → X) → (n ≡ 4 → X) → X
-  by-length {X} f g h = go (eqb n 2) (eqb n 3) refl refl
-    where
-      go : (a b : Bool) → eqb n 2 ≡ a → eqb n 3 ≡ b → X
-      go true b u v = f (eqb-true n 2 u)
-      go false true u v = g (eqb-true n 3 v)
-      go false false u v = h (is-four (eqb-false n 2 u) (eqb-false n 3 v))
+  by-length {X} f g h =
+      by-cases (eqb n 2) (λ u. f (eqb-true n 2 u))
+      (λ u. by-cases (eqb n 3) (λ v. g (eqb-true n 3 v)) (λ v. h (is-four (eqb-false n 2 u) (eqb-false n 3 v))))
 
   module _ (x : Bool) (e : x ≡ isTail (byte s 1)) where
     pub not-second : not x ≡ true → 0 ≡ charSize s

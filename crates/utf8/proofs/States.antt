@@ -1,4 +1,4 @@
--- The check one byte at a time: each return of `push`; and after all the bytes of a list nothing is wanted exactly where the list is
+-- For `push` and strings: the check one byte at a time. Each return of `push`; and after all the bytes of a list nothing is wanted exactly where the list is
 -- UTF8-octets. By induction on the list, a character at a time. Assumes nothing.
 use mathlib.Core.Path.{_≡_, refl, ap, sym, _∙_}
 use mathlib.Core.Bool.{Bool, true, false, _&&_, _||_}
@@ -14,7 +14,7 @@ use lib.ListN.{length, drop, length-drop}
 use lib.Seq.{drop-append-seam}
 use Rattle.base.specs.Choice.{pick}
 use Rattle.base.specs.Bytes.{within}
-use Rattle.base.proofs.Tests.{and-left, and-right, true-false, outside}
+use Rattle.base.proofs.Tests.{and-left, and-right, by-cases, true-false, outside}
 use Rattle.utf8.specs.Grammar.{Char, Octets, none, more, charSize, validTo}
 use Rattle.utf8.specs.State.{wants, ill, fresh, leadOf, push, pushAll}
 use Rattle.utf8.specs.declared.state.State.{State}
@@ -73,14 +73,10 @@ unfed : (n l h : ℕ) (xs : List ℕ) → n < 4 → pushAll (wants n l h) xs .ne
 unfolding pushAll
 unfed zero l h xs q e = refl
 unfed (suc n) l h [] q e = absurd (omega arith)
-unfed (suc n) l h (b ∷ xs) q e = go (within l h b) refl e (unfed n 0x80 0xBF xs (omega arith))
-  where
-    go : (w : Bool) → within l h b ≡ w → pushAll (push (wants (suc n) l h) b) xs .need ≡ 0 → (pushAll (wants n 0x80 0xBF) xs .need ≡ 0 → follows n 0x80 0xBF xs ≡ true)
-        → w && follows n 0x80 0xBF xs ≡ true
-    go true w e ih = ih (rw (push-tail n l h b (omega arith), w) at e)
-    go false w e ih =
-        let i : pushAll ill xs .need ≡ 0 = rw (push-tail n l h b (omega arith), w) at e in
-        absurd (omega (arith, ill-stays ill xs refl))
+unfed (suc n) l h (b ∷ xs) q e =
+    let g : pushAll (push (wants (suc n) l h) b) xs .need ≡ 0 = e in
+    by-cases (within l h b) (λ w. rw w (unfed n 0x80 0xBF xs (omega arith) (rw (push-tail n l h b (omega arith), w) at g)))
+    (λ w. let i : pushAll ill xs .need ≡ 0 = rw (push-tail n l h b (omega arith), w) at g in absurd (omega (arith, ill-stays ill xs refl)))
 
 module _ (a : ℕ) (xs : List ℕ) where
   first-fed : pushAll fresh (a ∷ xs) ≡ pushAll (leadOf a) xs
@@ -89,30 +85,23 @@ module _ (a : ℕ) (xs : List ℕ) where
 
   -- a character at the front leaves nothing wanted
   char-fed : (k : ℕ) → charSize (a ∷ xs) ≡ suc k → pushAll fresh (a ∷ xs) ≡ pushAll fresh (drop k xs)
-  char-fed k e = go (ltb (leadOf a .need) 4 && follows (leadOf a .need) (leadOf a .lo) (leadOf a .hi) xs) refl (sym (lead-size a xs) ∙ e)
-    where
-      n : Bool
-      n = ltb (leadOf a .need) 4
-
-      f : Bool
-      f = follows (leadOf a .need) (leadOf a .lo) (leadOf a .hi) xs
-
-      go : (b : Bool) → n && f ≡ b → pick b (suc (leadOf a .need)) 0 ≡ suc k → pushAll fresh (a ∷ xs) ≡ pushAll fresh (drop k xs)
-      go true w q =
-          let s : leadOf a .need ≡ k = omega arith in
-          rw (first-fed, ← s)
-          (fed (leadOf a .need) (leadOf a .lo) (leadOf a .hi) xs (ltb-true (leadOf a .need) 4 (and-left n f w)) (lead-fresh a) (and-right n f w))
-      go false w q = absurd (omega arith)
+  char-fed k e =
+      let n : Bool = ltb (leadOf a .need) 4 in
+      let f : Bool = follows (leadOf a .need) (leadOf a .lo) (leadOf a .hi) xs in
+      let q = sym (lead-size a xs) ∙ e in
+      by-cases (n && f) (λ w. let s : suc (leadOf a .need) ≡ suc k = rw w at q in
+      let z : leadOf a .need ≡ k = omega arith in
+      rw (first-fed, ← z)
+      (fed (leadOf a .need) (leadOf a .lo) (leadOf a .hi) xs (ltb-true (leadOf a .need) 4 (and-left n f w)) (lead-fresh a) (and-right n f w)))
+      (λ w. let s : 0 ≡ suc k = rw w at q in absurd (omega arith))
 
   -- and where nothing is wanted at the end, a character stands at the front
   fed-char : pushAll fresh (a ∷ xs) .need ≡ 0 → charSize (a ∷ xs) ≡ suc (leadOf a .need)
   fed-char e =
       let i : pushAll (leadOf a) xs .need ≡ 0 = rw first-fed at e in
-      let q : leadOf a .need < 4 = below i in
+      let q : leadOf a .need < 4 =
+      ⊎-elim (λ z. absurd (omega (arith, ill-stays (leadOf a) xs z))) (λ l. l) (eq-or-lt-of-le (lead-need a)) in
       rw (lead-size a xs, lt-ltb (leadOf a .need) 4 q, unfed (leadOf a .need) (leadOf a .lo) (leadOf a .hi) xs q i)
-    where
-      below : pushAll (leadOf a) xs .need ≡ 0 → leadOf a .need < 4
-      below i = ⊎-elim (λ z. absurd (omega (arith, ill-stays (leadOf a) xs z))) (λ l. l) (eq-or-lt-of-le (lead-need a))
 
 octet-fed : (c s : List ℕ) → Char c → pushAll fresh (c ++ s) ≡ pushAll fresh s
 octet-fed [] s h = absurd (omega (arith, char-shape h .some))
@@ -136,13 +125,7 @@ fed-valid (suc n) (a ∷ s) h e =
 
 -- the whole list is valid exactly where the state after it is between characters
 pub state-law : (s : List ℕ) → eqb (validTo s) (length s) ≡ eqb (pushAll fresh s .need) 0
-state-law s = go (eqb (validTo s) (length s)) (eqb (pushAll fresh s .need) 0) refl refl
-  where
-    go : (x y : Bool) → eqb (validTo s) (length s) ≡ x → eqb (pushAll fresh s .need) 0 ≡ y → eqb (validTo s) (length s) ≡ eqb (pushAll fresh s .need) 0
-    go true true p q = cc
-    go false false p q = cc
-    go true false p q =
-        let o = octets-fed (valid-octets s (eqb-true (validTo s) (length s) p)) in
-        absurd (eqb-false (pushAll fresh s .need) 0 q (ap (λ (t : State). t .need) o))
-    go false true p q =
-        absurd (eqb-false (validTo s) (length s) p (fed-valid (length s) s (omega arith) (eqb-true (pushAll fresh s .need) 0 q)))
+state-law s =
+    by-cases (eqb (validTo s) (length s))
+    (λ p. let o = octets-fed (valid-octets s (eqb-true (validTo s) (length s) p)) in rw (p, o))
+    (λ p. rw (p, ne-eqb (pushAll fresh s .need) 0 (λ q. eqb-false (validTo s) (length s) p (fed-valid (length s) s (omega arith) q))))

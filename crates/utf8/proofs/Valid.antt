@@ -1,7 +1,6 @@
--- The valid prefix that the reader computes and the rule UTF8-octets say the same; so the answer of the check is right both ways. By induction
--- on the characters. Assumes nothing.
+-- For the check, Boundaries and the crates above: the valid prefix that the reader computes and the rule UTF8-octets say the same, so the answer of the
+-- check is right both ways. By induction on the characters. Assumes nothing.
 use mathlib.Core.Path.{_≡_, refl, ap, sym, _∙_}
-use mathlib.Core.Bool.{Bool, true, false}
 use mathlib.Core.List.{List, [], _∷_, _++_, append-assoc}
 use Prim.Native.Nat.{ℕ, zero, suc, _+_, _≤_}
 use native.Mathlib.Omega.{arith}
@@ -9,8 +8,8 @@ use borrow.Author.Tests.{eqb-true, eqb-false}
 use lib.Dec.{eqb}
 use lib.ListN.{length, take, drop, length-append, length-drop, take-append-drop}
 use lib.Seq.{drop-append-seam, take-add, take-length, length-take-le}
-use Rattle.base.specs.Choice.{pick}
 use Rattle.base.specs.Runs.{past}
+use Rattle.base.proofs.Tests.{by-cases}
 use Rattle.base.proofs.Walks.{past-step, past-stop, past-end, past-le}
 use Rattle.utf8.specs.Grammar.{Char, Octets, none, more, charSize, validTo}
 use Rattle.utf8.specs.Check.{checkOf, FirstIll, Checked}
@@ -35,12 +34,12 @@ valid-step s k e =
     omega (arith, past-valid s 0, past-valid s (suc k), rw z at a)
 
 -- no character at the front
-pub valid-stop : (s : List ℕ) → charSize s ≡ 0 → validTo s ≡ 0
+valid-stop : (s : List ℕ) → charSize s ≡ 0 → validTo s ≡ 0
 unfolding validTo
 valid-stop [] e = past-end charSize [] 0 (omega arith)
 valid-stop (a ∷ s) e = past-stop charSize (a ∷ s) 0 (omega arith) e
 
-pub valid-char : {c : List ℕ} (t : List ℕ) → Char c → validTo (c ++ t) ≡ length c + validTo t
+valid-char : {c : List ℕ} (t : List ℕ) → Char c → validTo (c ++ t) ≡ length c + validTo t
 valid-char {c} t h = go (length c) refl
   where
     go : (n : ℕ) → length c ≡ n → validTo (c ++ t) ≡ length c + validTo t
@@ -69,7 +68,7 @@ prefix (suc n) s h = go (charSize s) refl (λ k g. prefix n (drop (suc k) s) (om
     go zero e ih = rw (valid-stop s e) none
     go (suc k) e ih = rw (valid-step s k e, take-add (suc k) (validTo (drop (suc k) s)) s) (more (char-of-size s k e) (ih k e))
 
-pub valid-prefix : (s : List ℕ) → Octets (take (validTo s) s)
+valid-prefix : (s : List ℕ) → Octets (take (validTo s) s)
 valid-prefix s = prefix (length s) s (omega arith)
 
 pub valid-octets : (s : List ℕ) → validTo s ≡ length s → Octets s
@@ -93,23 +92,21 @@ first-ill s d =
 -- the answer of the check
 pub checked : (s : List ℕ) (r : Verdict) → r ≡ checkOf s → Checked s r
 unfolding checkOf
-checked s r q = go (eqb (validTo s) (length s)) refl q
-  where
-    go : (b : Bool) → eqb (validTo s) (length s) ≡ b → r ≡ pick b WellFormed (IllFormed (validTo s)) → Checked s r
-    go true e p =
-        record {
-          same = q;
-          whole = λ w. valid-octets s (eqb-true (validTo s) (length s) e);
-          only = λ o. p;
-          first = λ n w. let z : _≡_ {A = ℕ} 0 1 = cc in absurd (omega arith);
-        }
-    go false e p =
-        record {
-          same = q;
-          whole = λ w. let z : _≡_ {A = ℕ} 0 1 = cc in absurd (omega arith);
-          only = λ o. absurd (eqb-false (validTo s) (length s) e (octets-valid o));
-          first = λ n w. let z : validTo s ≡ n = cc in rw z at (first-ill s (eqb-false (validTo s) (length s) e));
-        }
+checked s r q =
+    by-cases (eqb (validTo s) (length s)) (λ e. let p : r ≡ WellFormed = rw e at q in
+    record {
+      same = q;
+      whole = λ w. valid-octets s (eqb-true (validTo s) (length s) e);
+      only = λ o. p;
+      first = λ n w. let z : _≡_ {A = ℕ} 0 1 = cc in absurd (omega arith);
+    })
+    (λ e. let p : r ≡ IllFormed (validTo s) = rw e at q in
+    record {
+      same = q;
+      whole = λ w. let z : _≡_ {A = ℕ} 0 1 = cc in absurd (omega arith);
+      only = λ o. absurd (eqb-false (validTo s) (length s) e (octets-valid o));
+      first = λ n w. let z : validTo s ≡ n = cc in rw z at (first-ill s (eqb-false (validTo s) (length s) e));
+    })
 
 -- the answer says where the valid prefix ends
 pub whole-end : (s : List ℕ) (r : Verdict) → Checked s r → r ≡ WellFormed → length s ≡ validTo s
@@ -117,8 +114,7 @@ whole-end s r c e = sym (octets-valid (c .whole e))
 
 pub ill-end : (s : List ℕ) (r : Verdict) (n : ℕ) → Checked s r → r ≡ IllFormed n → n ≡ validTo s
 unfolding checkOf
-ill-end s r n c e = go (eqb (validTo s) (length s)) (sym e ∙ c .same)
-  where
-    go : (b : Bool) → IllFormed n ≡ pick b WellFormed (IllFormed (validTo s)) → n ≡ validTo s
-    go true p = cc
-    go false p = cc
+ill-end s r n c e =
+    let q = sym e ∙ c .same in
+    by-cases (eqb (validTo s) (length s)) (λ z. let p : IllFormed n ≡ WellFormed = rw z at q in cc)
+    (λ z. let p : IllFormed n ≡ IllFormed (validTo s) = rw z at q in cc)

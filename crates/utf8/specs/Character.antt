@@ -3,12 +3,12 @@ use mathlib.Core.Bool.{Bool, false, not, _&&_, _||_}
 use mathlib.Core.List.{List, [], _∷_}
 use Prim.Native.Nat.{ℕ, _+_, _*_, _/_, _%_}
 use lib.Dec.{eqb, ltb, leb}
-use lib.ListN.{take}
 use Rattle.base.specs.Choice.{pick}
 use Rattle.base.specs.Bytes.{byte, within}
 use Rattle.utf8.specs.Grammar.{Range, range, charSize}
 use Rattle.utf8.specs.declared.character.Character.{Character}
-use Rattle.utf8.specs.declared.character.Encoded.{Encoded}
+
+-- Types of the code (src/character.rt). `Character`: a code point, `code`, and how many octets it has, `size`.
 
 -- the free bits of a character of 1 to 4 octets, "x" in the table of section 3, and 0 for any other size
 unfoldable pub codeBits : ℕ → List ℕ → ℕ
@@ -33,10 +33,6 @@ encodeOf r =
     (pick (ltb r 0x800) ((0xC0 + r / 64) ∷ (0x80 + r % 64) ∷ [])
     (pick (ltb r 0x10000) ((0xE0 + r / 4096) ∷ (0x80 + r / 64 % 64) ∷ (0x80 + r % 64) ∷ [])
     ((0xF0 + r / 262144) ∷ (0x80 + r / 4096 % 64) ∷ (0x80 + r / 64 % 64) ∷ (0x80 + r % 64) ∷ [])))
-
--- the octets that an answer of at most four bytes holds
-abbrev pub octetsOf : Encoded → List ℕ
-octetsOf e = take (e .len) (e .a ∷ e .b ∷ e .c ∷ e .d ∷ [])
 
 -- Unicode's property White_Space, its 25 code points
 unfoldable pub whiteSpace : List Range

@@ -12,6 +12,8 @@ use Rattle.utf8.specs.Grammar.{Char, Octets, validTo}
 use Rattle.utf8.specs.declared.check.Verdict.{Verdict}
 use Rattle.utf8.specs.declared.check.Verdict.the-variants.{WellFormed, IllFormed}
 
+-- Types of the code (src/check.rt). `Verdict`: `WellFormed`, or `IllFormed n`, n being where the first ill-formed sequence begins.
+
 -- well formed where the valid prefix is the whole
 unfoldable pub checkOf : List ℕ → Verdict
 checkOf s = pick (eqb (validTo s) (length s)) WellFormed (IllFormed (validTo s))

@@ -1,5 +1,4 @@
 -- Well-formed UTF-8, as RFC 3629, section 4, writes its grammar: once as rules, once as what a reader computes.
-use mathlib.Core.Path.{_≡_}
 use mathlib.Core.Bool.{Bool, true, false, _&&_}
 use mathlib.Core.List.{List, [], _∷_, _++_, List·Memᴰ}
 use Prim.Native.Nat.{ℕ, _≤_}
@@ -86,7 +85,3 @@ charSize s = firstOf utf8-char s
 -- the length of the longest prefix that is UTF8-octets and after which no UTF8-char stands
 unfoldable pub validTo : List ℕ → ℕ
 validTo s = past charSize s 0
-
--- from i on, the text is UTF8-octets to its end
-unfoldable pub Boundary : List ℕ → ℕ → Type 0
-Boundary s i = past charSize s i ≡ length s

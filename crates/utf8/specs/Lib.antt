@@ -1,7 +1,6 @@
 pub mod Grammar
-pub mod Ascii
 pub mod Check
-pub mod Short
 pub mod Onward
 pub mod State
 pub mod Character
+pub mod Helpers

@@ -1,4 +1,4 @@
--- Places between the characters of a text.
+-- Helper definitions, for proofs and inner contracts alone: places between the characters of a text.
 use mathlib.Core.Path.{_≡_}
 use mathlib.Core.List.{List}
 use Prim.Native.Nat.{ℕ, _≤_, _<_}
@@ -16,3 +16,7 @@ pub record Onward (s : List ℕ) (i r : ℕ) : Type 0 where
 pub record Passed (s : List ℕ) (i e r : ℕ) : Type 0 where
   pub onward : Onward s i r
   pub stops : r < e → charSize (drop r s) ≡ 0
+
+-- from i on, the text is UTF8-octets to its end
+unfoldable pub Boundary : List ℕ → ℕ → Type 0
+Boundary s i = past charSize s i ≡ length s

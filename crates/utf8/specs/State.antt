@@ -1,4 +1,4 @@
--- The check one byte at a time: what the character that has begun still wants.
+-- Helper definitions, for proofs and inner contracts alone: the check one byte at a time, by what the character that has begun still wants.
 use mathlib.Core.Path.{_≡_}
 use mathlib.Core.List.{List, [], _∷_}
 use Prim.Native.Nat.{ℕ, _-_, _≤_}
@@ -8,6 +8,9 @@ use Rattle.base.specs.Choice.{pick}
 use Rattle.base.specs.Bytes.{byte, within}
 use Rattle.utf8.specs.Grammar.{Range, utf8-char}
 use Rattle.utf8.specs.declared.state.State.{State}
+
+-- Types of the code (src/state.rt). `State`: how many octets the character that has begun still wants, `need`, the first of them from `lo` to `hi`; 4
+-- where no character begins or goes on so.
 
 abbrev pub wants : ℕ → ℕ → ℕ → State
 wants n l h = record { need = n; lo = l; hi = h }

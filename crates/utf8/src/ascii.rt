@@ -4,7 +4,7 @@ ghost use Prim.Native.Nat.{_≤_};
 ghost use lib.ListN.{length};
 ghost use Rattle.base.specs.Runs.{run, reach};
 ghost use Rattle.base.specs.Blocks.{allPass, Ahead};
-ghost use Rattle.utf8.specs.Ascii.{isAscii, ascii};
+ghost use Rattle.utf8.specs.Helpers.{isAscii, inAscii};
 use base::find::BLOCK;
 use base::find::WINDOW;
 use base::find::earlier;
@@ -25,7 +25,7 @@ pub fn all_ascii(s: &[u8]) -> bool
 // How many bytes at the front of a window are ASCII.
 fn ascii_count(s: &[u8]) -> usize
     requires { ⌜ length (now s) ≤ 255 ⌝ }
-    ensures { λ r. ⌜ r ≡ run ascii (now (s .entry)) ⌝ }
+    ensures { λ r. ⌜ r ≡ run inAscii (now (s .entry)) ⌝ }
 {
     let none = s.len() as u8;
     let mut m = none;
@@ -40,7 +40,7 @@ fn ascii_count(s: &[u8]) -> usize
 // The end of the ASCII bytes in the window at `at`, where there is a whole one.
 fn past_window(text: &[u8], at: usize) -> usize
     requires { ⌜ at ≤ length (now text) ⌝ }
-    ensures { λ r. ⌜ Ahead ascii (now (text .entry)) at r ⌝ }
+    ensures { λ r. ⌜ Ahead inAscii (now (text .entry)) at r ⌝ }
 {
     if text.len() - at < WINDOW {
         return at;
@@ -52,7 +52,7 @@ fn past_window(text: &[u8], at: usize) -> usize
 // The end of the ASCII blocks from `at` on, and of the ASCII bytes in the window after them.
 fn past_blocks(text: &[u8], at: usize) -> usize
     requires { ⌜ at ≤ length (now text) ⌝ }
-    ensures { λ r. ⌜ Ahead ascii (now (text .entry)) at r ⌝ }
+    ensures { λ r. ⌜ Ahead inAscii (now (text .entry)) at r ⌝ }
 {
     let mut i = at;
     while BLOCK <= text.len() - i {
@@ -67,7 +67,7 @@ fn past_blocks(text: &[u8], at: usize) -> usize
 
 // The end of the run of ASCII bytes from `at` on.
 fn past_bytes(text: &[u8], at: usize) -> usize
-    ensures { λ r. ⌜ r ≡ reach ascii (now (text .entry)) at ⌝ }
+    ensures { λ r. ⌜ r ≡ reach inAscii (now (text .entry)) at ⌝ }
 {
     let mut i = at;
     while i < text.len() {
@@ -82,7 +82,7 @@ fn past_bytes(text: &[u8], at: usize) -> usize
 // The same, block by block as long as there are any.
 pub fn past_ascii(text: &[u8], at: usize) -> usize
     requires { ⌜ at ≤ length (now text) ⌝ }
-    ensures { λ r. ⌜ r ≡ reach ascii (now (text .entry)) at ⌝ }
+    ensures { λ r. ⌜ r ≡ reach inAscii (now (text .entry)) at ⌝ }
 {
     past_bytes(text, past_blocks(text, at))
 }

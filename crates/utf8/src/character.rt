@@ -8,7 +8,8 @@ ghost use Rattle.base.specs.Choice.{pick};
 ghost use Rattle.utf8.specs.Grammar.{charSize};
 ghost use Rattle.utf8.specs.Check.{isTail};
 ghost use Rattle.utf8.specs.State.{Long};
-ghost use Rattle.utf8.specs.Character.{codeBits, decodeOf, encodeOf, octetsOf, isWhite, whiteSize};
+ghost use Rattle.utf8.specs.Character.{codeBits, decodeOf, encodeOf, isWhite, whiteSize};
+ghost use Rattle.utf8.specs.Helpers.{octetsOf};
 use crate::state::is_first;
 use crate::state::length_of;
 
@@ -176,7 +177,7 @@ pub fn encode(code: u32) -> Encoded
 }
 
 // Whether a code point is White_Space.
-pub fn is_white(code: u32) -> bool
+fn is_white(code: u32) -> bool
     ensures { λ r. ⌜ r ≡ isWhite code ⌝ }
 {
     ((0x0009 <= code) & (code <= 0x000D))

@@ -3,7 +3,7 @@ ghost use mathlib.Core.Path.{_≡_};
 ghost use Prim.Native.Nat.{_≤_};
 ghost use lib.ListN.{length};
 ghost use Rattle.base.specs.Blocks.{allPairs};
-ghost use Rattle.utf8.specs.Short.{inShort};
+ghost use Rattle.utf8.specs.Helpers.{inShort};
 ghost use Rattle.utf8.specs.Onward.{Onward};
 use crate::ascii::all_ascii;
 use crate::character::is_tail;

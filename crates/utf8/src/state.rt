@@ -56,7 +56,7 @@ impl State {
     }
 
     // What the first byte of a character wants after it.
-    pub fn lead(a: u8) -> State
+    fn lead(a: u8) -> State
         ensures { λ r. ⌜ r ≡ leadOf a ⌝ }
     {
         if a < 0x80 {

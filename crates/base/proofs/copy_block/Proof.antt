@@ -8,21 +8,6 @@ use Rattle.base.proofs.Stores.{overlaid-all}
 use Rattle.base.proofs.copy_block.Statement.{statement}
 use Rattle.base.proofs.copy_block.Tie as tie
 
-slice-aggregate-copy-bytes : tie.Need-slice-aggregate-copy-bytes
-slice-aggregate-copy-bytes c = search needs
-
-copy-bytes-requires : tie.Need-copy-bytes-requires
-copy-bytes-requires c κs = search needs
-
-slice-aggregate-copy-bytes-2 : tie.Need-slice-aggregate-copy-bytes-2
-slice-aggregate-copy-bytes-2 c = search needs
-
-copy-bytes-requires-2 : tie.Need-copy-bytes-requires-2
-copy-bytes-requires-2 c κs = search needs
-
-same-length : tie.Need-same-length
-same-length c = search needs
-
 returns : tie.Need-returns
 returns c =
     let b = c .before .before .before .before .before .before in
@@ -33,12 +18,5 @@ returns c =
     c .before .before .copy-bytes2 .ensures ∙ rw (f, take-all 16 (take 16 s) (omega arith))
 
 pub copy-block-spec : {M : Type 1} → statement M
-copy-block-spec =
-    tie.close
-    (tie.spec
-    slice-aggregate-copy-bytes
-    copy-bytes-requires
-    slice-aggregate-copy-bytes-2
-    copy-bytes-requires-2
-    same-length
-    returns)
+copy-block-spec = tie.close (tie.spec
+    (λ c. search needs) (λ c κs. search needs) (λ c. search needs) (λ c κs. search needs) (λ c. search needs) returns)

@@ -7,18 +7,6 @@ use borrow.Author.Needs.{needs}
 use Rattle.exports.proofs.duration_parse.Statement.{statement}
 use Rattle.exports.proofs.duration_parse.Tie as tie
 
-parse-requires : tie.Need-parse-requires
-parse-requires c κs = search needs
-
-enum-known-parsed : tie.Need-enum-known-parsed
-enum-known-parsed c = search needs
-
-element-set-from-z : tie.Need-element-set-from-z
-element-set-from-z c = search needs
-
-enum-told : tie.Need-enum-told
-enum-told c = search needs
-
 returns : tie.Need-returns
 returns c =
     let p = c .before in
@@ -27,12 +15,7 @@ returns c =
     let f : SFits w64 z = search needs in
     rw (e, toZ-ofZ w64 z f) (refl, refl)
 
-returns-2 : tie.Need-returns-2
-returns-2 c =
-    let e = sym (c .before .before .parse .ensures) ∙ c .enum-told .given .1 in
-    rw e (refl, refl)
-
 pub duration-parse-spec : {M : Type 1} → statement M
-duration-parse-spec =
-    tie.close
-    (tie.spec parse-requires enum-known-parsed element-set-from-z enum-told returns returns-2)
+duration-parse-spec = tie.close (tie.spec
+    (λ c κs. search needs) (λ c. search needs) (λ c. search needs) (λ c. search needs) returns
+    (λ c. rw (sym (c .before .before .parse .ensures) ∙ c .enum-told .given .1) (refl, refl)))

@@ -14,18 +14,6 @@ use Rattle.listing.proofs.print_listing.Tie as tie
 lends : {A : Type 0} (n k : ℕ) (x : A) → k ≤ n → k ≤ length (replicate n x)
 lends n k x h = rw (length-replicate n x) h
 
-slice-aggregate-fill : tie.Need-slice-aggregate-fill
-slice-aggregate-fill c = search needs
-
-slice-aggregate-fill-2 : tie.Need-slice-aggregate-fill-2
-slice-aggregate-fill-2 c = search needs
-
-slice-aggregate-fill-3 : tie.Need-slice-aggregate-fill-3
-slice-aggregate-fill-3 c = search needs
-
-slice-aggregate-fill-4 : tie.Need-slice-aggregate-fill-4
-slice-aggregate-fill-4 c = search needs
-
 fill-requires : tie.Need-fill-requires
 fill-requires c κs =
     record {
@@ -41,22 +29,7 @@ array-share-prefix-out c = c .before .before .before .before .fill .ensures .ins
 slice-aggregate-write-all : tie.Need-slice-aggregate-write-all
 slice-aggregate-write-all c = sym (length-take-le _ _ (c .before .before .before .before .before .fill .ensures .inside))
 
-write-all-requires : tie.Need-write-all-requires
-write-all-requires c κs = search needs
-
-returns : tie.Need-returns
-returns c = search needs
-
 pub print-listing-spec : {M : Type 1} → statement M
-print-listing-spec =
-    tie.close
-    (tie.spec
-    slice-aggregate-fill
-    slice-aggregate-fill-2
-    slice-aggregate-fill-3
-    slice-aggregate-fill-4
-    fill-requires
-    array-share-prefix-out
-    slice-aggregate-write-all
-    write-all-requires
-    returns)
+print-listing-spec = tie.close (tie.spec
+    (λ c. search needs) (λ c. search needs) (λ c. search needs) (λ c. search needs) fill-requires array-share-prefix-out
+    slice-aggregate-write-all (λ c κs. search needs) (λ c. search needs))

@@ -22,41 +22,21 @@ Inv-loop row size₀ k₀ size k = (k ≤ length row) × Counting (lineText row)
 abbrev μ-loop : tie.MeasureT-loop
 μ-loop row size₀ k₀ size k = length row - k
 
-loop-holds : tie.Need-loop-holds Inv-loop μ-loop
-loop-holds c = (omega arith, counting-start _)
-
-mul-z : tie.Need-mul-z Inv-loop μ-loop
-mul-z c = search needs
-
-shared-slice-copy-out-z : tie.Need-shared-slice-copy-out-z Inv-loop μ-loop
-shared-slice-copy-out-z c = search needs
-
-number-size-requires : tie.Need-number-size-requires Inv-loop μ-loop
-number-size-requires c κs = search needs
-
 -- the size of the number at k
-size-is : (c : tie.After-number-size Inv-loop μ-loop)
-    → (c .number-size .result ≡ length (numberText (getD (c .before .before .before .before .args .row .now) (c .before .before .before .loop .k) (pos 0))))
-    × (c .number-size .result ≤ 21)
-size-is c =
-    let z = getD (c .before .before .before .before .args .row .now) (c .before .before .before .loop .k) (pos 0) in
+size-is : (s : tie.After-number-size Inv-loop μ-loop)
+    → let l = s .before .before .before in
+    (s .number-size .result ≡ length (numberText (getD (l .before .args .row .now) (l .loop .k) (pos 0)))) × (s .number-size .result ≤ 21)
+size-is s =
+    let l = s .before .before .before in
+    let z = getD (l .before .args .row .now) (l .loop .k) (pos 0) in
     let f : SFits w64 z = search needs in
-    let e : c .number-size .result ≡ length (numberText z) = rw (toZ-ofZ w64 _ f) at (c .number-size .ensures) in
+    let e : s .number-size .result ≡ length (numberText z) = rw (toZ-ofZ w64 _ f) at (s .number-size .ensures) in
     (e, omega (arith, number-most z))
-
-add-size : tie.Need-add-size Inv-loop μ-loop
-add-size c = record { fits = omega (arith, size-is c) }
 
 add-size-2 : tie.Need-add-size-2 Inv-loop μ-loop
 add-size-2 c =
     let l = c .before .before .before in
     record { fits = omega (arith, size-is c, l .loop .inv .1 .sum, line-most (l .before .args .row .now), l .before .pre) }
-
-add-k : tie.Need-add-k Inv-loop μ-loop
-add-k c = search needs
-
-loop-less : tie.Need-loop-less Inv-loop μ-loop
-loop-less c = search needs
 
 loop-again : tie.Need-loop-again Inv-loop μ-loop
 loop-again c =
@@ -66,10 +46,8 @@ loop-again c =
     let e = line-at row k (c .before .before .loop-test .taken) in
     (omega arith, counting-turn (l .loop .inv .1) (numberAt row k) e (omega (arith, size-is c, number-length row k)))
 
-returns : tie.Need-returns Inv-loop μ-loop
-returns c = counting-end (c .before .loop .inv .1) (line-done _ _ (c .loop-test .left))
-
 pub line-size-spec : {M : Type 1} → statement M
-line-size-spec =
-    tie.close
-    (tie.spec Inv-loop μ-loop loop-holds mul-z shared-slice-copy-out-z number-size-requires add-size add-size-2 add-k loop-less loop-again returns)
+line-size-spec = tie.close (tie.spec
+    Inv-loop μ-loop (λ c. (omega arith, counting-start _)) (λ c. search needs) (λ c. search needs) (λ c κs. search needs)
+    (λ c. record { fits = omega (arith, size-is c) }) add-size-2 (λ c. search needs) (λ c. search needs) loop-again
+    (λ c. counting-end (c .before .loop .inv .1) (line-done _ _ (c .loop-test .left))))

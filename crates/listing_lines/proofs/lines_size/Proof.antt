@@ -20,33 +20,15 @@ Inv-loop text limit place₀ size₀ place size = Measuring text place size
 abbrev μ-loop : tie.MeasureT-loop
 μ-loop text limit place₀ size₀ place size = length text - place .offset
 
-default-bytes-limit-requires : tie.Need-default-bytes-limit-requires Inv-loop μ-loop
-default-bytes-limit-requires c κs = search needs
-
-first-requires : tie.Need-first-requires Inv-loop μ-loop
-first-requires c κs = search needs
-
-loop-holds : tie.Need-loop-holds Inv-loop μ-loop
-loop-holds c = measuring-start _ _ (c .first .ensures) (c .before .before .before .pre .0)
-
-next-token-requires : tie.Need-next-token-requires Inv-loop μ-loop
-next-token-requires c κs = (c .loop .inv .walkable, c .before .before .before .before .pre .1)
-
 -- the token, with the default limit
-token-is : (c : tie.After-next-token Inv-loop μ-loop)
-    → c .next-token .result
-    ≡ nextToken Strict maxBytesLiteralLength (c .before .before .before .before .before .args .text .now) (c .before .loop .place .offset)
-token-is c = rw (c .before .before .before .default-bytes-limit .ensures) at (c .next-token .ensures)
+token-is : (n : tie.After-next-token Inv-loop μ-loop)
+    → n .next-token .result
+    ≡ nextToken Strict maxBytesLiteralLength (n .before .before .before .before .before .args .text .now) (n .before .loop .place .offset)
+token-is n = rw (n .before .before .before .default-bytes-limit .ensures) at (n .next-token .ensures)
 
 token-numbers-requires : tie.Need-token-numbers-requires Inv-loop μ-loop
 token-numbers-requires c κs =
     token-fits (c .before .loop .inv) (token-is c) (λ k. c .before .before .before .before .shared-slice-known .given k .fits)
-
-slice-aggregate-line-size : tie.Need-slice-aggregate-line-size Inv-loop μ-loop
-slice-aggregate-line-size c = search needs
-
-line-size-requires : tie.Need-line-size-requires Inv-loop μ-loop
-line-size-requires c κs = rw (c .before .token-numbers .ensures) (omega arith)
 
 -- the size of its line
 size-is : (c : tie.After-line-size Inv-loop μ-loop)
@@ -58,9 +40,6 @@ add-size c =
     let n = c .before .before .before in
     let w = n .before .loop .inv in
     record { fits = omega (arith, size-is c, line-few w (token-is n), w .few, w .walkable .inside, w .walkable .short) }
-
-is-eof-requires : tie.Need-is-eof-requires Inv-loop μ-loop
-is-eof-requires c κs = search needs
 
 returns : tie.Need-returns Inv-loop μ-loop
 returns c =
@@ -81,7 +60,7 @@ loop-again c =
     measuring-turn (n .before .loop .inv) (token-is n) (eqb-false _ _ (sym (c .before .before .is-eof .ensures) ∙ c .before .if1 .left)) (size-is l)
 
 pub lines-size-spec : {M : Type 1} → statement M
-lines-size-spec =
-    tie.close
-    (tie.spec Inv-loop μ-loop default-bytes-limit-requires first-requires loop-holds next-token-requires token-numbers-requires
-    slice-aggregate-line-size line-size-requires add-size is-eof-requires returns loop-less loop-again)
+lines-size-spec = tie.close (tie.spec
+    Inv-loop μ-loop (λ c κs. search needs) (λ c κs. search needs) (λ c. search measuring-start) (λ c κs. search needs)
+    token-numbers-requires (λ c. search needs) (λ c κs. rw (c .before .token-numbers .ensures) (omega arith)) add-size
+    (λ c κs. search needs) returns loop-less loop-again)

@@ -8,7 +8,6 @@ use Rattle.listing_lines.specs.Listing.{linesSize}
 use Rattle.listing_lines.proofs.listing_size.Statement.{statement}
 use Rattle.listing_lines.proofs.listing_size.Tie as tie
 
--- the text fits
 fit : (d : tie.After-enum-told) → judgeOf (d .before .before .before .before .args .text .now) ≡ Fit
 fit d = sym (d .before .before .judge .ensures) ∙ d .enum-told .given .1
 
@@ -24,5 +23,5 @@ unfolding linesSize
 returns-2 c = rw (sym (c .before .before .judge .ensures) ∙ c .enum-told2 .given .1)
 
 pub listing-size-spec : {M : Type 1} → statement M
-listing-size-spec =
-    tie.close (tie.spec (λ c κs. search needs) (λ c. search needs) lines-size-requires (λ c. search needs) returns returns-2)
+listing-size-spec = tie.close (tie.spec
+    (λ c κs. search needs) (λ c. search needs) lines-size-requires (λ c. search needs) returns returns-2)

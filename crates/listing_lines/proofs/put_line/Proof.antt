@@ -20,24 +20,6 @@ Inv-loop row out₀ at end₀ k₀ out end k = (k ≤ length row) × Writing (li
 abbrev μ-loop : tie.MeasureT-loop
 μ-loop row out₀ at end₀ k₀ out end k = length row - k
 
-loop-holds : tie.Need-loop-holds Inv-loop μ-loop
-loop-holds c = (omega arith, writing-start _ _ _)
-
-mul-z : tie.Need-mul-z Inv-loop μ-loop
-mul-z c = search needs
-
-shared-slice-copy-out-z : tie.Need-shared-slice-copy-out-z Inv-loop μ-loop
-shared-slice-copy-out-z c = search needs
-
-add-k : tie.Need-add-k Inv-loop μ-loop
-add-k c = search needs
-
-sub-separator-before : tie.Need-sub-separator-before Inv-loop μ-loop
-sub-separator-before c = search needs
-
-separator-before-requires : tie.Need-separator-before-requires Inv-loop μ-loop
-separator-before-requires c κs = search needs
-
 write-number-requires : tie.Need-write-number-requires Inv-loop μ-loop
 write-number-requires c κs =
     let l = c .before .before .before .before in
@@ -47,29 +29,22 @@ write-number-requires c κs =
     let w = l .loop .inv .1 in
     let e = line-at row k (c .before .before .before .loop-test .taken) in
     rw (toZ-ofZ w64 _ f)
-    (omega (arith, w .same, w .reached, l .before .before .pre, ap length e, length-append (numberAt row k) (lineText (drop (k + 1) row)), number-length row k))
-
-loop-less : tie.Need-loop-less Inv-loop μ-loop
-loop-less c = search needs
+    (omega (arith, l .before .before .pre, ap length e, length-append (numberAt row k) (lineText (drop (k + 1) row)), number-length row k))
 
 loop-again : tie.Need-loop-again Inv-loop μ-loop
 loop-again c =
-    let l = c .before .before .before .before .before .before .before in
+    let q = c .before .before in
+    let i = q .before .before .before .before in
+    let l = i .before in
     let row = l .before .before .args .row .now in
     let k = l .loop .k in
     let f : SFits w64 (getD row k (pos 0)) = search needs in
-    let q = rw (toZ-ofZ w64 _ f, c .before .before .before .separator-before .ensures) at (c .before .before .write-number .ensures) in
-    let e = line-at row k (c .before .before .before .before .before .before .loop-test .taken) in
-    (omega arith, writing-turn (l .loop .inv .1) (numberAt row k) e (q .1) (omega (arith, q .0, number-length row k)))
-
-same-length : tie.Need-same-length Inv-loop μ-loop
-same-length c = c .before .loop .inv .1 .same
-
-returns : tie.Need-returns Inv-loop μ-loop
-returns c = writing-end (c .before .loop .inv .1) (line-done _ _ (c .loop-test .left))
+    let w = rw (toZ-ofZ w64 _ f, q .before .separator-before .ensures) at (q .write-number .ensures) in
+    let e = line-at row k (i .loop-test .taken) in
+    (omega arith, writing-turn (l .loop .inv .1) (numberAt row k) e (w .1) (omega (arith, w .0, number-length row k)))
 
 pub put-line-spec : {M : Type 1} → statement M
-put-line-spec =
-    tie.close
-    (tie.spec Inv-loop μ-loop loop-holds mul-z shared-slice-copy-out-z add-k sub-separator-before separator-before-requires
-    write-number-requires loop-less loop-again same-length returns)
+put-line-spec = tie.close (tie.spec
+    Inv-loop μ-loop (λ c. (omega arith, writing-start _ _ _)) (λ c. search needs) (λ c. search needs) (λ c. search needs)
+    (λ c. search needs) (λ c κs. search needs) write-number-requires (λ c. search needs) loop-again (λ c. c .before .loop .inv .1 .same)
+    (λ c. writing-end (c .before .loop .inv .1) (line-done _ _ (c .loop-test .left))))

@@ -7,27 +7,6 @@ use Rattle.base.proofs.Signed.{signed}
 use Rattle.listing_lines.proofs.token_numbers.Statement.{statement}
 use Rattle.listing_lines.proofs.token_numbers.Tie as tie
 
-number-requires : tie.Need-number-requires
-number-requires c κs = search needs
-
-cast-t5 : tie.Need-cast-t5
-cast-t5 c = search needs
-
-cast-t6 : tie.Need-cast-t6
-cast-t6 c = search needs
-
-cast-t7 : tie.Need-cast-t7
-cast-t7 c = search needs
-
-cast-t8 : tie.Need-cast-t8
-cast-t8 c = search needs
-
-cast-t9 : tie.Need-cast-t9
-cast-t9 c = search needs
-
-cast-t10 : tie.Need-cast-t10
-cast-t10 c = search needs
-
 returns : tie.Need-returns
 returns c =
     let v = c .before .before .before .before .before in
@@ -46,4 +25,6 @@ returns c =
     )
 
 pub token-numbers-spec : {M : Type 1} → statement M
-token-numbers-spec = tie.close (tie.spec number-requires cast-t5 cast-t6 cast-t7 cast-t8 cast-t9 cast-t10 returns)
+token-numbers-spec = tie.close (tie.spec
+    (λ c κs. search needs) (λ c. search needs) (λ c. search needs) (λ c. search needs) (λ c. search needs) (λ c. search needs)
+    (λ c. search needs) returns)

@@ -4,9 +4,6 @@ use Rattle.base.specs.Classes.{isDurationUnit}
 use Rattle.base.proofs.class.is_duration_unit.Statement.{statement}
 use Rattle.base.proofs.class.is_duration_unit.Tie as tie
 
-returns : tie.Need-returns
-unfolding isDurationUnit
-returns c = refl
-
 pub is-duration-unit-spec : {M : Type 1} → statement M
-is-duration-unit-spec = tie.close (tie.spec returns)
+unfolding isDurationUnit
+is-duration-unit-spec = tie.close (tie.spec (λ c. refl))

@@ -4,9 +4,6 @@ use Rattle.base.specs.Classes.{isIdentStart}
 use Rattle.base.proofs.class.is_ident_start.Statement.{statement}
 use Rattle.base.proofs.class.is_ident_start.Tie as tie
 
-returns : tie.Need-returns
-unfolding isIdentStart
-returns c = refl
-
 pub is-ident-start-spec : {M : Type 1} → statement M
-is-ident-start-spec = tie.close (tie.spec returns)
+unfolding isIdentStart
+is-ident-start-spec = tie.close (tie.spec (λ c. refl))

@@ -4,9 +4,6 @@ use Rattle.base.specs.Classes.{isLowerAlpha}
 use Rattle.base.proofs.class.is_lower_alpha.Statement.{statement}
 use Rattle.base.proofs.class.is_lower_alpha.Tie as tie
 
-returns : tie.Need-returns
-unfolding isLowerAlpha
-returns c = refl
-
 pub is-lower-alpha-spec : {M : Type 1} → statement M
-is-lower-alpha-spec = tie.close (tie.spec returns)
+unfolding isLowerAlpha
+is-lower-alpha-spec = tie.close (tie.spec (λ c. refl))

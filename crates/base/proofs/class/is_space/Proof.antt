@@ -4,9 +4,6 @@ use Rattle.base.specs.Classes.{isSpace}
 use Rattle.base.proofs.class.is_space.Statement.{statement}
 use Rattle.base.proofs.class.is_space.Tie as tie
 
-returns : tie.Need-returns
-unfolding isSpace
-returns c = refl
-
 pub is-space-spec : {M : Type 1} → statement M
-is-space-spec = tie.close (tie.spec returns)
+unfolding isSpace
+is-space-spec = tie.close (tie.spec (λ c. refl))

@@ -15,25 +15,9 @@ Inv-loop s c none₀ i₀ none i = (none && allPass (isNot c) (drop i s)) ≡ al
 abbrev μ-loop : tie.MeasureT-loop
 μ-loop s c none₀ i₀ none i = length s - i
 
-loop-holds : tie.Need-loop-holds Inv-loop μ-loop
-loop-holds c = refl
-
-shared-slice-read-none : tie.Need-shared-slice-read-none Inv-loop μ-loop
-shared-slice-read-none c = search needs
-
-add-i : tie.Need-add-i Inv-loop μ-loop
-add-i c = search needs
-
-loop-less : tie.Need-loop-less Inv-loop μ-loop
-loop-less c = search needs
-
 loop-again : tie.Need-loop-again Inv-loop μ-loop
 loop-again c = let l = c .before .before .loop in all-turn (isNot _) _ (l .none) (l .i) (l .inv) (c .before .loop-test .taken)
 
-returns : tie.Need-returns Inv-loop μ-loop
-returns c = search all-end
-
 pub lacks-spec : {M : Type 1} → statement M
-lacks-spec =
-    tie.close
-    (tie.spec Inv-loop μ-loop loop-holds shared-slice-read-none add-i loop-less loop-again returns)
+lacks-spec = tie.close (tie.spec
+    Inv-loop μ-loop (λ c. refl) (λ c. search needs) (λ c. search needs) (λ c. search needs) loop-again (λ c. search all-end))

@@ -6,12 +6,6 @@ use borrow.Author.Needs.{needs}
 use Rattle.go_duration.proofs.fraction.keeps.Statement.{statement}
 use Rattle.go_duration.proofs.fraction.keeps.Tie as tie
 
-peek-requires : tie.Need-peek-requires
-peek-requires c κs = search needs
-
-is-digit-requires : tie.Need-is-digit-requires
-is-digit-requires c κs = search needs
-
 returns : tie.Need-returns
 returns c =
     let d = c .before in
@@ -22,17 +16,8 @@ returns-2 c =
     let d = c .before .before in
     rw (← d .before .peek .ensures, ← d .is-digit .ensures, not-false (d .is-digit .result) (c .before .if1 .left), lt-leb _ _ (c .if2 .taken))
 
-mul-result : tie.Need-mul-result
-mul-result c = search needs
-
 sub-result : tie.Need-sub-result
 sub-result c = digit-range _ (sym (c .before .before .is-digit .ensures) ∙ not-false _ (c .before .if1 .left)) .0
-
-cast-result : tie.Need-cast-result
-cast-result c = search needs
-
-add-result : tie.Need-add-result
-add-result c = search needs
 
 returns-3 : tie.Need-returns-3
 returns-3 c =
@@ -40,15 +25,6 @@ returns-3 c =
     rw (← d .before .peek .ensures, ← d .is-digit .ensures, not-false (d .is-digit .result) (c .before .if1 .left), le-leb _ _ (c .if2 .left))
 
 pub keeps-spec : {M : Type 1} → statement M
-keeps-spec =
-    tie.close
-    (tie.spec
-    peek-requires
-    is-digit-requires
-    returns
-    returns-2
-    mul-result
-    sub-result
-    cast-result
-    add-result
+keeps-spec = tie.close (tie.spec
+    (λ c κs. search needs) (λ c κs. search needs) returns returns-2 (λ c. search needs) sub-result (λ c. search needs) (λ c. search needs)
     returns-3)

@@ -4,7 +4,7 @@ use Prim.Native.Nat.{_-_, _≤_, zero-le}
 use native.Mathlib.Omega.{arith}
 use lib.Ieee.{ofBits}
 use Rattle.go_duration.specs.Fraction.{scaleOf}
-use Rattle.go_duration.proofs.DigitSteps.{scale-step, scale-stays}
+use Rattle.go_duration.proofs.Scales.{scale-step, scale-stays}
 use borrow.Author.Needs.{needs}
 use Rattle.go_duration.proofs.fraction.scale_of.Statement.{statement}
 use Rattle.go_duration.proofs.fraction.scale_of.Tie as tie
@@ -15,25 +15,10 @@ Inv-loop k scale₀ i₀ scale i = (i ≤ k) × (scale ≡ scaleOf i)
 abbrev μ-loop : tie.MeasureT-loop
 μ-loop k scale₀ i₀ scale i = k - i
 
-loop-holds : tie.Need-loop-holds Inv-loop μ-loop
-unfolding ofBits scaleOf
-loop-holds c = (zero-le, refl)
-
 returns : tie.Need-returns Inv-loop μ-loop
 returns c =
     let l = c .before .before .loop in
     l .inv .1 ∙ scale-stays (l .i) _ (c .if1 .taken) (l .inv .0)
-
-add-i : tie.Need-add-i Inv-loop μ-loop
-add-i c = search needs
-
-loop-less : tie.Need-loop-less Inv-loop μ-loop
-loop-less c = search needs
-
-loop-again : tie.Need-loop-again Inv-loop μ-loop
-loop-again c =
-    let l = c .before .before .loop in
-    (omega (arith, c .before .loop-test .taken), scale-step (l .scale) (l .i) (l .inv .1))
 
 returns-2 : tie.Need-returns-2 Inv-loop μ-loop
 returns-2 c =
@@ -42,5 +27,6 @@ returns-2 c =
     l .inv .1 ∙ ap scaleOf z
 
 pub scale-of-spec : {M : Type 1} → statement M
-scale-of-spec =
-    tie.close (tie.spec Inv-loop μ-loop loop-holds returns add-i loop-less loop-again returns-2)
+unfolding ofBits scaleOf
+scale-of-spec = tie.close (tie.spec
+    Inv-loop μ-loop (λ c. (zero-le, refl)) returns (λ c. search needs) (λ c. search needs) (λ c. search (scale-step, needs)) returns-2)

@@ -12,37 +12,11 @@ use Rattle.go_duration.proofs.parse.parse.Tie as tie
 sign-in : (c : tie.After-sign-size) → c .sign-size .result ≤ length (c .before .before .before .args .run .now)
 sign-in c = rw (c .sign-size .ensures, c .before .peek .ensures) (sign-le (c .before .before .before .args .run .now))
 
-peek-requires : tie.Need-peek-requires
-peek-requires c κs = search needs
-
-sign-size-requires : tie.Need-sign-size-requires
-sign-size-requires c κs = search needs
-
-sub-unsigned-run : tie.Need-sub-unsigned-run
-sub-unsigned-run c = sign-in c
-
-part-unsigned-run-start : tie.Need-part-unsigned-run-start
-part-unsigned-run-start c = sign-in c
-
-part-unsigned-run-end : tie.Need-part-unsigned-run-end
-part-unsigned-run-end c = search needs
-
-unsigned-run-requires : tie.Need-unsigned-run-requires
-unsigned-run-requires c κs = search needs
-
 returns : tie.Need-returns
 returns c =
     let n = c .before .before in
     (rw (rest-is, n .sign-size .ensures, n .before .peek .ensures) at (c .unsigned-run .ensures)) ∙ run-is _
 
 pub parse-spec : {M : Type 1} → statement M
-parse-spec =
-    tie.close
-    (tie.spec
-    peek-requires
-    sign-size-requires
-    sub-unsigned-run
-    part-unsigned-run-start
-    part-unsigned-run-end
-    unsigned-run-requires
-    returns)
+parse-spec = tie.close (tie.spec
+    (λ c κs. search needs) (λ c κs. search needs) (λ c. sign-in c) (λ c. sign-in c) (λ c. search needs) (λ c κs. search needs) returns)

@@ -7,12 +7,6 @@ use Rattle.go_duration.specs.Stages.{signSize}
 use Rattle.go_duration.proofs.parse.sign_size.Statement.{statement}
 use Rattle.go_duration.proofs.parse.sign_size.Tie as tie
 
-cast-result : tie.Need-cast-result
-cast-result c = search needs
-
-returns : tie.Need-returns
-unfolding signSize
-returns c = as-number (eqb (c .args .first) 45 || eqb (c .args .first) 43)
-
 pub sign-size-spec : {M : Type 1} → statement M
-sign-size-spec = tie.close (tie.spec cast-result returns)
+unfolding signSize
+sign-size-spec = tie.close (tie.spec (λ c. search needs) (λ c. as-number (eqb (c .args .first) 45 || eqb (c .args .first) 43)))

@@ -1,5 +1,6 @@
 -- `fraction_at` is `fractionAt`: the digits after a point are those of the rest. Assumes nothing.
 use mathlib.Core.Path.{_≡_, refl, sym, ap, _∙_}
+use mathlib.Core.List.{List}
 use Prim.Native.Nat.{ℕ, _+_, _≤_, _<_}
 use native.Mathlib.Omega.{arith}
 use lib.Dec.{eqb}
@@ -27,15 +28,14 @@ point-in c =
 
 -- the digits, over the rest
 module _ (c : tie.After-leading-fraction) where
-  digits-are : let a = c .before .before .before .before .before .args in
-      c .leading-fraction .result ≡ fractionOf (readDigits (drop (a .at + 1) (a .s .now)) noDigits)
+  abbrev rest : List ℕ
+  rest = let a = c .before .before .before .before .before .args in drop (a .at + 1) (a .s .now)
+
+  digits-are : c .leading-fraction .result ≡ fractionOf (readDigits rest noDigits)
   digits-are = rw rest-is at (c .leading-fraction .ensures)
 
-  count-is : let a = c .before .before .before .before .before .args in
-      c .leading-fraction .result .count ≡ countOf (readDigits (drop (a .at + 1) (a .s .now)) noDigits)
-  count-is =
-      let a = c .before .before .before .before .before .args in
-      ap countOf (acc-is (c .leading-fraction .result) (readDigits (drop (a .at + 1) (a .s .now)) noDigits) digits-are)
+  count-is : c .leading-fraction .result .count ≡ countOf (readDigits rest noDigits)
+  count-is = ap countOf (acc-is (c .leading-fraction .result) (readDigits rest noDigits) digits-are)
 
   ends : let a = c .before .before .before .before .before .args in a .at + 1 + c .leading-fraction .result .count ≤ length (a .s .now)
   ends =
@@ -48,51 +48,17 @@ after-is : (d e : Fraction) (n : ℕ) (m : ℕ) → d ≡ e → d .count ≡ m
     → _≡_ {A = After} (record { digits = d; «end» = n + d .count }) (record { digits = e; «end» = n + m })
 after-is d e n m p q = cc
 
-peek-requires : tie.Need-peek-requires
-peek-requires c κs = search needs
-
-add-start : tie.Need-add-start
-add-start c = omega (arith, point-in c)
-
-sub-leading-fraction : tie.Need-sub-leading-fraction
-sub-leading-fraction c = omega (arith, point-in c)
-
-part-leading-fraction-start : tie.Need-part-leading-fraction-start
-part-leading-fraction-start c = omega (arith, point-in c)
-
-part-leading-fraction-end : tie.Need-part-leading-fraction-end
-part-leading-fraction-end c = search needs
-
-leading-fraction-requires : tie.Need-leading-fraction-requires
-leading-fraction-requires c κs = search needs
-
-add-t9 : tie.Need-add-t9
-add-t9 c = omega (arith, ends c)
-
 returns : tie.Need-returns
 unfolding fractionAt
 returns c =
     let p = c .before .before in
     rw (← p .before .peek .ensures, p .if1 .taken) (after-is (c .leading-fraction .result) _ _ _ (digits-are c) (count-is c))
 
-start-requires : tie.Need-start-requires
-start-requires c κs = search needs
-
 returns-2 : tie.Need-returns-2
 unfolding fractionAt
 returns-2 c = rw (← c .before .before .peek .ensures, ne-eqb _ _ (c .before .if1 .left), c .start .ensures)
 
 pub fraction-at-spec : {M : Type 1} → statement M
-fraction-at-spec =
-    tie.close
-    (tie.spec
-    peek-requires
-    add-start
-    sub-leading-fraction
-    part-leading-fraction-start
-    part-leading-fraction-end
-    leading-fraction-requires
-    add-t9
-    returns
-    start-requires
-    returns-2)
+fraction-at-spec = tie.close (tie.spec
+    (λ c κs. search needs) (λ c. omega (arith, point-in c)) (λ c. omega (arith, point-in c)) (λ c. omega (arith, point-in c)) (λ c. search needs)
+    (λ c κs. search needs) (λ c. omega (arith, ends c)) returns (λ c κs. search needs) returns-2)

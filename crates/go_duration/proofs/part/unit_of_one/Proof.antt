@@ -6,21 +6,8 @@ use Rattle.go_duration.specs.Units.{units, unitOf}
 use Rattle.go_duration.proofs.part.unit_of_one.Statement.{statement}
 use Rattle.go_duration.proofs.part.unit_of_one.Tie as tie
 
-returns : tie.Need-returns
-unfolding units unitOf sameBytes
-returns c = rw (c .match .keys1)
-
-returns-2 : tie.Need-returns-2
-unfolding units unitOf sameBytes
-returns-2 c = rw (c .match .keys2)
-
-returns-3 : tie.Need-returns-3
-unfolding units unitOf sameBytes
-returns-3 c = rw (c .match .keys3)
-
-returns-4 : tie.Need-returns-4
-unfolding units unitOf sameBytes
-returns-4 c = let r = c .match .rest in simp (and-false, ne-eqb _ _ (r .0 .0 .1), ne-eqb _ _ (r .0 .1), ne-eqb _ _ (r .1))
-
 pub unit-of-one-spec : {M : Type 1} → statement M
-unit-of-one-spec = tie.close (tie.spec returns returns-2 returns-3 returns-4)
+unfolding units unitOf sameBytes
+unit-of-one-spec = tie.close (tie.spec
+    (λ c. rw (c .match .keys1)) (λ c. rw (c .match .keys2)) (λ c. rw (c .match .keys3))
+    (λ c. let r = c .match .rest in simp (and-false, ne-eqb _ _ (r .0 .0 .1), ne-eqb _ _ (r .0 .1), ne-eqb _ _ (r .1))))

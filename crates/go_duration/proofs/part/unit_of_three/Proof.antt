@@ -10,31 +10,14 @@ use Rattle.go_duration.specs.Units.{units, unitOf}
 use Rattle.go_duration.proofs.part.unit_of_three.Statement.{statement}
 use Rattle.go_duration.proofs.part.unit_of_three.Tie as tie
 
-returns : tie.Need-returns
-unfolding units unitOf sameBytes
-returns c = simp (ne-eqb _ _ (c .if1 .taken), and-false)
-
 -- the two bytes that a test of both found
 both : (a b m n : ℕ) → eqb a m && eqb b n ≡ true → (a ≡ m) × (b ≡ n)
 both a b m n e = (eqb-true a m (and-left (eqb a m) (eqb b n) e), eqb-true b n (and-right (eqb a m) (eqb b n) e))
 
-returns-2 : tie.Need-returns-2
-unfolding units unitOf sameBytes
-returns-2 c =
-    let a = c .before .before .args in
-    let q = both (a .a) (a .b) 0xC2 0xB5 (c .if2 .taken) in
-    rw (c .before .if1 .left, q .0, q .1)
-
-returns-3 : tie.Need-returns-3
-unfolding units unitOf sameBytes
-returns-3 c =
-    let a = c .before .before .before .args in
-    let q = both (a .a) (a .b) 0xCE 0xBC (c .if3 .taken) in
-    rw (c .before .before .if1 .left, q .0, q .1)
-
-returns-4 : tie.Need-returns-4
-unfolding units unitOf sameBytes
-returns-4 c = simp (c .before .before .if1 .left, and-true, and-false, c .before .if2 .left, c .if3 .left)
-
 pub unit-of-three-spec : {M : Type 1} → statement M
-unit-of-three-spec = tie.close (tie.spec returns returns-2 returns-3 returns-4)
+unfolding units unitOf sameBytes
+unit-of-three-spec = tie.close (tie.spec
+    (λ c. simp (ne-eqb _ _ (c .if1 .taken), and-false))
+    (λ c. let a = c .before .before .args in let q = both (a .a) (a .b) 0xC2 0xB5 (c .if2 .taken) in rw (c .before .if1 .left, q .0, q .1))
+    (λ c. let a = c .before .before .before .args in let q = both (a .a) (a .b) 0xCE 0xBC (c .if3 .taken) in rw (c .before .before .if1 .left, q .0, q .1))
+    (λ c. simp (c .before .before .if1 .left, and-true, and-false, c .before .if2 .left, c .if3 .left)))

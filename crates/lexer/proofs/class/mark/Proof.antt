@@ -1,78 +1,20 @@
 -- `mark` is `markOf`: each arm of the match is a case of the definition, and the last one fails all of them. Assumes nothing.
 use borrow.Author.Tests.{ne-eqb}
-use Rattle.lexer.specs.Lexer.{markOf}
+use Rattle.lexer.specs.Helpers.{markOf}
 use Rattle.lexer.proofs.class.mark.Statement.{statement}
 use Rattle.lexer.proofs.class.mark.Tie as tie
-
-returns : tie.Need-returns
-unfolding markOf
-returns c = rw (c .match .keys1)
-
-returns-2 : tie.Need-returns-2
-unfolding markOf
-returns-2 c = rw (c .match .keys2)
-
-returns-3 : tie.Need-returns-3
-unfolding markOf
-returns-3 c = rw (c .match .keys3)
-
-returns-4 : tie.Need-returns-4
-unfolding markOf
-returns-4 c = rw (c .match .keys4)
-
-returns-5 : tie.Need-returns-5
-unfolding markOf
-returns-5 c = rw (c .match .keys5)
-
-returns-6 : tie.Need-returns-6
-unfolding markOf
-returns-6 c = rw (c .match .keys6)
-
-returns-7 : tie.Need-returns-7
-unfolding markOf
-returns-7 c = rw (c .match .keys7)
-
-returns-8 : tie.Need-returns-8
-unfolding markOf
-returns-8 c = rw (c .match .keys8)
-
-returns-9 : tie.Need-returns-9
-unfolding markOf
-returns-9 c = rw (c .match .keys9)
-
-returns-10 : tie.Need-returns-10
-unfolding markOf
-returns-10 c = rw (c .match .keys10)
 
 returns-11 : tie.Need-returns-11
 unfolding markOf
 returns-11 c =
     let r = c .match .rest in
-    rw (
-      ne-eqb _ _ (r .0 .0 .0 .0 .0 .0 .0 .0 .0 .1),
-      ne-eqb _ _ (r .0 .0 .0 .0 .0 .0 .0 .0 .1),
-      ne-eqb _ _ (r .0 .0 .0 .0 .0 .0 .0 .1),
-      ne-eqb _ _ (r .0 .0 .0 .0 .0 .0 .1),
-      ne-eqb _ _ (r .0 .0 .0 .0 .0 .1),
-      ne-eqb _ _ (r .0 .0 .0 .0 .1),
-      ne-eqb _ _ (r .0 .0 .0 .1),
-      ne-eqb _ _ (r .0 .0 .1),
-      ne-eqb _ _ (r .0 .1),
-      ne-eqb _ _ (r .1),
-    )
+    let k = r .0 .0 .0 .0 .0 in
+    rw (ne-eqb _ _ (k .0 .0 .0 .0 .1), ne-eqb _ _ (k .0 .0 .0 .1), ne-eqb _ _ (k .0 .0 .1), ne-eqb _ _ (k .0 .1), ne-eqb _ _ (k .1))
+    (rw (ne-eqb _ _ (r .0 .0 .0 .0 .1), ne-eqb _ _ (r .0 .0 .0 .1), ne-eqb _ _ (r .0 .0 .1), ne-eqb _ _ (r .0 .1), ne-eqb _ _ (r .1)))
 
 pub mark-spec : {M : Type 1} → statement M
-mark-spec =
-    tie.close
-    (tie.spec
-    returns
-    returns-2
-    returns-3
-    returns-4
-    returns-5
-    returns-6
-    returns-7
-    returns-8
-    returns-9
-    returns-10
-    returns-11)
+unfolding markOf
+mark-spec = tie.close (tie.spec
+    (λ c. rw (c .match .keys1)) (λ c. rw (c .match .keys2)) (λ c. rw (c .match .keys3)) (λ c. rw (c .match .keys4))
+    (λ c. rw (c .match .keys5)) (λ c. rw (c .match .keys6)) (λ c. rw (c .match .keys7)) (λ c. rw (c .match .keys8))
+    (λ c. rw (c .match .keys9)) (λ c. rw (c .match .keys10)) returns-11)

@@ -5,23 +5,12 @@ use borrow.Author.Needs.{needs}
 use Rattle.lexer.proofs.lex.lex_one.Statement.{statement}
 use Rattle.lexer.proofs.lex.lex_one.Tie as tie
 
-bare-requires : tie.Need-bare-requires
-bare-requires c κs = search needs
-
-returns : tie.Need-returns
-unfolding lexemeOf
-returns c = rw (eq-eqb _ _ (c .before .if1 .taken)) (c .bare .ensures)
-
-classify-requires : tie.Need-classify-requires
-classify-requires c κs = search needs
-
-lex-by-requires : tie.Need-lex-by-requires
-lex-by-requires c κs = search needs
-
 returns-2 : tie.Need-returns-2
 unfolding lexemeOf
 returns-2 c = rw (ne-eqb _ _ (c .before .before .if1 .left), ← c .before .classify .ensures) (c .lex-by .ensures)
 
 pub lex-one-spec : {M : Type 1} → statement M
-lex-one-spec =
-    tie.close (tie.spec bare-requires returns classify-requires lex-by-requires returns-2)
+unfolding lexemeOf
+lex-one-spec = tie.close (tie.spec
+    (λ c κs. search needs) (λ c. rw (eq-eqb _ _ (c .before .if1 .taken)) (c .bare .ensures)) (λ c κs. search needs) (λ c κs. search needs)
+    returns-2)

@@ -6,12 +6,6 @@ use borrow.Author.Needs.{needs}
 use Rattle.lexer.proofs.next.end_place.Statement.{statement}
 use Rattle.lexer.proofs.next.end_place.Tie as tie
 
-add-to : tie.Need-add-to
-add-to c = search needs
-
-on-one-line-requires : tie.Need-on-one-line-requires
-on-one-line-requires c κs = search needs
-
 add-column : tie.Need-add-column
 add-column c =
     let w = c .before .before .before .before .before .pre .walkable in
@@ -24,12 +18,6 @@ returns c =
     let p = o .before .before .before .pre in
     flat-along _ _ _ (p .walkable) (p .flat (sym (o .on-one-line .ensures) ∙ c .before .if1 .taken))
 
-walk-requires : tie.Need-walk-requires
-walk-requires c κs = search needs
-
-returns-2 : tie.Need-returns-2
-returns-2 c = search needs
-
 pub end-place-spec : {M : Type 1} → statement M
-end-place-spec =
-    tie.close (tie.spec add-to on-one-line-requires add-column returns walk-requires returns-2)
+end-place-spec = tie.close (tie.spec
+    (λ c. search needs) (λ c κs. search needs) add-column returns (λ c κs. search needs) (λ c. search needs))

@@ -1,5 +1,5 @@
 -- `mark_lexeme` chooses as the definition does. Assumes nothing.
-use Rattle.lexer.specs.Lexer.{markLexeme}
+use Rattle.lexer.specs.Helpers.{markLexeme}
 use borrow.Author.Needs.{needs}
 use Rattle.lexer.proofs.next.mark_lexeme.Statement.{statement}
 use Rattle.lexer.proofs.next.mark_lexeme.Tie as tie
@@ -13,5 +13,4 @@ unfolding markLexeme
 returns-2 c = rw (← c .before .before .is-newline .ensures, c .before .if1 .left) (c .whole .ensures)
 
 pub mark-lexeme-spec : {M : Type 1} → statement M
-mark-lexeme-spec =
-    tie.close (tie.spec (λ c κs. search needs) (λ c κs. search needs) returns (λ c κs. search needs) returns-2)
+mark-lexeme-spec = tie.close (tie.spec (λ c κs. search needs) (λ c κs. search needs) returns (λ c κs. search needs) returns-2)

@@ -6,12 +6,6 @@ use borrow.Author.Needs.{needs}
 use Rattle.lexer.proofs.next.placed.Statement.{statement}
 use Rattle.lexer.proofs.next.placed.Tie as tie
 
-precision-at-requires : tie.Need-precision-at-requires
-precision-at-requires c κs = search needs
-
-add-value : tie.Need-add-value
-add-value c = search needs
-
 returns : tie.Need-returns
 returns c =
     let x = c .before .before .before .args .x in
@@ -19,4 +13,4 @@ returns c =
     rw (toZ-ofZ w64 (x .nanos) f, c .before .before .precision-at .ensures)
 
 pub placed-spec : {M : Type 1} → statement M
-placed-spec = tie.close (tie.spec precision-at-requires add-value returns)
+placed-spec = tie.close (tie.spec (λ c κs. search needs) (λ c. search needs) returns)

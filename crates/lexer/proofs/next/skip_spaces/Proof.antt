@@ -5,12 +5,6 @@ use Rattle.lexer.specs.Token.{startAt}
 use Rattle.lexer.proofs.next.skip_spaces.Statement.{statement}
 use Rattle.lexer.proofs.next.skip_spaces.Tie as tie
 
-reach-run-requires : tie.Need-reach-run-requires
-reach-run-requires c κs = search needs
-
-returns : tie.Need-returns
-unfolding startAt inRun
-returns c = c .reach-run .ensures
-
 pub skip-spaces-spec : {M : Type 1} → statement M
-skip-spaces-spec = tie.close (tie.spec reach-run-requires returns)
+unfolding startAt inRun
+skip-spaces-spec = tie.close (tie.spec (λ c κs. search needs) (λ c. search needs))

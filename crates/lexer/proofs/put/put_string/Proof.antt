@@ -1,67 +1,50 @@
 -- `put_string` lays `stringIn`: three quotes choose the writer of triple-quoted strings. Assumes nothing.
-use mathlib.Core.Path.{sym, ap, _∙_}
+use mathlib.Core.Bool.{true, false}
+use mathlib.Core.Path.{_≡_, sym, ap, _∙_}
 use native.Mathlib.Omega.{arith}
 use lib.ListN.{length}
-use lib.Seq.{sets}
+use Rattle.triple_strings.specs.Triple.{quotes}
 use Rattle.triple_strings.proofs.QuoteSearch.{quotes-long}
 use Rattle.lexer.proofs.Puts.{string-in, triple-value, literal-value, literal-sized}
 use borrow.Author.Needs.{needs}
 use Rattle.lexer.proofs.put.put_string.Statement.{statement}
 use Rattle.lexer.proofs.put.put_string.Tie as tie
 
-at-quotes-requires : tie.Need-at-quotes-requires
-at-quotes-requires c κs = search needs
+-- whether three quotes stand at the front
+three : (d : tie.Then1) → quotes (d .before .before .before .before .args .s .now) ≡ true
+three d = sym (d .before .at-quotes .ensures) ∙ d .if1 .taken
+
+one : (d : tie.Else1) → quotes (d .before .before .before .before .args .s .now) ≡ false
+one d = sym (d .before .at-quotes .ensures) ∙ d .if1 .left
 
 put-triple-string-requires : tie.Need-put-triple-string-requires
 put-triple-string-requires c κs =
-    let a = c .before .before .before .before .before in
-    let q = sym (c .before .before .at-quotes .ensures) ∙ c .before .if1 .taken in
-    let f = a .pre .0 in
-    (quotes-long (a .args .s .now) q, omega (arith, a .pre .1, f .counted, ap length (triple-value (a .args .mode) (a .args .s .now) (f .some) q)))
-
-same-length : tie.Need-same-length
-same-length c = search needs
+    let p = c .before .before .before .before .before .pre in
+    let q = three (c .before) in
+    (quotes-long _ q, omega (arith, p .1, p .0 .counted, ap length (triple-value _ _ (p .0 .some) q)))
 
 returns : tie.Need-returns
 returns c =
-    let b = c .before .before .before .before .before in
-    let a = b .before .before .before in
-    let q = sym (b .at-quotes .ensures) ∙ c .before .before .before .before .if1 .taken in
-    c .before .before .put-triple-string .ensures ∙ ap (sets (a .args .out .now) (a .args .place)) (sym (triple-value (a .args .mode) (a .args .s .now) (a .pre .0 .some) q))
-
-mode-requires : tie.Need-mode-requires
-mode-requires c κs = search needs
+    let d = c .before .before .before .before in
+    rw (triple-value _ _ (d .before .before .before .before .pre .0 .some) (three d)) (c .before .before .put-triple-string .ensures)
 
 put-string-requires : tie.Need-put-string-requires
 put-string-requires c κs =
-    let a = c .before .before .before .before .before .before in
-    let q = sym (c .before .before .before .at-quotes .ensures) ∙ c .before .before .if1 .left in
-    let f = a .pre .0 in (
-      string-in (a .args .mode) (a .args .s .now) (f .some),
-      a .pre .1,
-      rw (c .before .mode .ensures) (rw (f .counted, f .ends) at (literal-sized (a .args .mode) (a .args .s .now) (f .some) q (f .limit))),
+    let d = c .before .before in
+    let p = d .before .before .before .before .pre in
+    let f = p .0 in (
+      string-in _ _ (f .some),
+      p .1,
+      rw (c .before .mode .ensures) (rw (f .counted, f .ends) at (literal-sized _ _ (f .some) (one d) (f .limit))),
     )
-
-same-length-2 : tie.Need-same-length-2
-same-length-2 c = search needs
 
 returns-2 : tie.Need-returns-2
 returns-2 c =
-    let b = c .before .before .before .before .before .before in
-    let a = b .before .before .before in
-    let q = sym (b .at-quotes .ensures) ∙ c .before .before .before .before .before .if1 .left in
-    rw (c .before .before .before .before .mode .ensures) at (c .before .before .put-string .ensures)
-    ∙ ap (sets (a .args .out .now) (a .args .place)) (sym (literal-value (a .args .mode) (a .args .s .now) (a .pre .0 .some) q))
+    let d = c .before .before .before .before .before in
+    rw (literal-value _ _ (d .before .before .before .before .pre .0 .some) (one d), ← c .before .before .before .before .mode .ensures)
+    (c .before .before .put-string .ensures)
 
 pub put-string-spec : {M : Type 1} → statement M
-put-string-spec =
-    tie.close
-    (tie.spec
-    at-quotes-requires
-    put-triple-string-requires
-    same-length
-    returns
-    mode-requires
-    put-string-requires
-    same-length-2
-    returns-2)
+put-string-spec = tie.close (tie.spec
+    (λ c κs. search needs) put-triple-string-requires (λ c. search needs) returns (λ c κs. search needs) put-string-requires
+    (λ c. search needs) returns-2)

@@ -4,9 +4,7 @@ use Rattle.lexer.specs.Reading.{lexemeIn}
 use Rattle.lexer.proofs.reading.lex_in.Statement.{statement}
 use Rattle.lexer.proofs.reading.lex_in.Tie as tie
 
-returns : tie.Need-returns
-unfolding lexemeIn
-returns c = rw (← c .before .mode .ensures) (c .lex-one .ensures)
-
 pub lex-in-spec : {M : Type 1} → statement M
-lex-in-spec = tie.close (tie.spec (λ c κs. search needs) (λ c κs. search needs) returns)
+unfolding lexemeIn
+lex-in-spec = tie.close (tie.spec
+    (λ c κs. search needs) (λ c κs. search needs) (λ c. rw (← c .before .mode .ensures) (c .lex-one .ensures)))

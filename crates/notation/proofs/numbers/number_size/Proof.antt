@@ -8,15 +8,6 @@ use Rattle.notation.proofs.Digits.{text-size}
 use Rattle.notation.proofs.numbers.number_size.Statement.{statement}
 use Rattle.notation.proofs.numbers.number_size.Tie as tie
 
-slice-aggregate-put-number : tie.Need-slice-aggregate-put-number
-slice-aggregate-put-number c = search needs
-
-put-number-requires : tie.Need-put-number-requires
-put-number-requires c κs = search needs
-
-sub-result : tie.Need-sub-result
-sub-result c = search needs
-
 returns : tie.Need-returns
 returns c =
     let a = c .before .before .before in
@@ -24,4 +15,4 @@ returns c =
     omega (arith, text-size (rw e at (c .before .put-number .ensures)) refl)
 
 pub number-size-spec : {M : Type 1} → statement M
-number-size-spec = tie.close (tie.spec slice-aggregate-put-number put-number-requires sub-result returns)
+number-size-spec = tie.close (tie.spec (λ c. search needs) (λ c κs. search needs) (λ c. search needs) returns)

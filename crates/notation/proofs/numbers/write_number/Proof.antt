@@ -8,22 +8,11 @@ use lib.Seq.{take-all}
 use mir.Syntax.{w64}
 use mir.ValLaws.{toZ-ofZ}
 use borrow.Author.Needs.{needs}
-use Rattle.notation.specs.Decimal.{numberText, EndsWith}
+use Rattle.notation.specs.Decimal.{numberText}
+use Rattle.notation.specs.Helpers.{EndsWith}
 use Rattle.notation.proofs.Digits.{text-size}
 use Rattle.notation.proofs.numbers.write_number.Statement.{statement}
 use Rattle.notation.proofs.numbers.write_number.Tie as tie
-
-slice-aggregate-put-number : tie.Need-slice-aggregate-put-number
-slice-aggregate-put-number c = search needs
-
-put-number-requires : tie.Need-put-number-requires
-put-number-requires c κs = search needs
-
-sub-size : tie.Need-sub-size
-sub-size c = search needs
-
-slice-aggregate-copy : tie.Need-slice-aggregate-copy
-slice-aggregate-copy c = search needs
 
 -- what the 22 bytes hold
 written : (d : tie.After-put-number)
@@ -37,12 +26,6 @@ copy-requires c κs =
     let w = written p in
     (omega (arith, text-size w refl), omega (arith, w .kept, w .inside))
 
-add-result : tie.Need-add-result
-add-result c = search needs
-
-same-length : tie.Need-same-length
-same-length c = search needs
-
 returns : tie.Need-returns
 returns c =
     let d = c .before .before .before .before .before .before in
@@ -53,5 +36,6 @@ returns c =
     (omega arith, c .before .before .copy .ensures ∙ rw (w .holds, take-all (22 - d .put-number .result) t q))
 
 pub write-number-spec : {M : Type 1} → statement M
-write-number-spec =
-    tie.close (tie.spec slice-aggregate-put-number put-number-requires sub-size slice-aggregate-copy copy-requires add-result same-length returns)
+write-number-spec = tie.close (tie.spec
+    (λ c. search needs) (λ c κs. search needs) (λ c. search needs) (λ c. search needs) copy-requires (λ c. search needs) (λ c. search needs)
+    returns)

@@ -3,15 +3,5 @@ use borrow.Author.Tests.{ne-eqb}
 use Rattle.pxf.proofs.texts.reading_of.Statement.{statement}
 use Rattle.pxf.proofs.texts.reading_of.Tie as tie
 
-returns : tie.Need-returns
-returns c = rw (c .if1 .taken)
-
-returns-2 : tie.Need-returns-2
-returns-2 c = rw (ne-eqb _ _ (c .if1 .left))
-
 pub reading-of-spec : {M : Type 1} → statement M
-reading-of-spec =
-    tie.close
-    (tie.spec
-    returns
-    returns-2)
+reading-of-spec = tie.close (tie.spec (λ c. rw (c .if1 .taken)) (λ c. rw (ne-eqb _ _ (c .if1 .left))))

@@ -1,36 +1,21 @@
 -- The values of an answer, each below 2^63, stay themselves as signed numbers; the rest is 0, and a refusal's are its own. Assumes nothing.
-use borrow.Author.Needs.{needs}
+use mathlib.Core.List.{[], _∷_}
 use native.Mathlib.Omega.{arith}
+use borrow.Author.Needs.{needs}
 use Rattle.base.proofs.Signed.{signed}
+use Rattle.pxf.specs.Helpers.{Fit63}
 use Rattle.pxf.proofs.values.of_place.Statement.{statement}
 use Rattle.pxf.proofs.values.of_place.Tie as tie
 
-cast-t5 : tie.Need-cast-t5
-cast-t5 c =
-    let f = rw (c .before .before .r .given .1) at (c .before .before .before .before .pre) in
-    record { sfits = omega (arith, f 0) }
-
-cast-t6 : tie.Need-cast-t6
-cast-t6 c =
-    let f = rw (c .before .before .before .r .given .1) at (c .before .before .before .before .before .pre) in
-    record { sfits = omega (arith, f 1) }
-
-cast-t7 : tie.Need-cast-t7
-cast-t7 c =
-    let f = rw (c .before .before .before .before .r .given .1) at (c .before .before .before .before .before .before .pre) in
-    record { sfits = omega (arith, f 2) }
-
-of-refusal-requires : tie.Need-of-refusal-requires
-of-refusal-requires c κs = rw (c .before .r2 .given .1) at (c .before .before .before .pre)
-
-returns : tie.Need-returns
-returns c =
-    let f = rw (c .before .before .before .before .r .given .1) at (c .before .before .before .before .before .before .pre) in
-    rw (c .before .before .before .before .r .given .1, signed _ (f 0), signed _ (f 1), signed _ (f 2))
-
-returns-2 : tie.Need-returns-2
-returns-2 c = rw (c .before .before .r2 .given .1) (c .of-refusal .ensures)
+-- the values of the accepted answer fit
+fit : (d : tie.After-r) → let p = d .r .given .0 .0 in Fit63 (p .offset ∷ p .line ∷ p .column ∷ [])
+fit d = rw (d .r .given .1) at (d .before .before .pre)
 
 pub of-place-spec : {M : Type 1} → statement M
-of-place-spec =
-    tie.close (tie.spec (λ c. search needs) cast-t5 cast-t6 cast-t7 (λ c. search needs) of-refusal-requires returns returns-2)
+of-place-spec = tie.close (tie.spec
+    (λ c. search needs) (λ c. record { sfits = omega (arith, fit (c .before .before) 0) })
+    (λ c. record { sfits = omega (arith, fit (c .before .before .before) 1) })
+    (λ c. record { sfits = omega (arith, fit (c .before .before .before .before) 2) }) (λ c. search needs)
+    (λ c κs. rw (c .before .r2 .given .1) at (c .before .before .before .pre))
+    (λ c. let d = c .before .before .before .before in rw (d .r .given .1, signed _ (fit d 0), signed _ (fit d 1), signed _ (fit d 2)))
+    (λ c. rw (c .before .before .r2 .given .1) (c .of-refusal .ensures)))

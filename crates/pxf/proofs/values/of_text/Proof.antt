@@ -1,36 +1,20 @@
 -- The values of an answer, each below 2^63, stay themselves as signed numbers; the rest is 0, and a refusal's are its own. Assumes nothing.
-use borrow.Author.Needs.{needs}
+use mathlib.Core.List.{[], _∷_}
 use native.Mathlib.Omega.{arith}
+use borrow.Author.Needs.{needs}
 use Rattle.base.proofs.Signed.{signed}
+use Rattle.pxf.specs.Helpers.{Fit63}
 use Rattle.pxf.proofs.values.of_text.Statement.{statement}
 use Rattle.pxf.proofs.values.of_text.Tie as tie
 
-cast-t7 : tie.Need-cast-t7
-cast-t7 c =
-    let f = rw (c .before .r .given .1) at (c .before .before .before .pre) in
-    record { sfits = omega (arith, f 0) }
-
-cast-t8 : tie.Need-cast-t8
-cast-t8 c =
-    let f = rw (c .before .r .given .1) at (c .before .before .before .pre) in
-    record { sfits = omega (arith, f 1) }
-
-cast-t9 : tie.Need-cast-t9
-cast-t9 c =
-    let f = rw (c .before .r .given .1) at (c .before .before .before .pre) in
-    record { sfits = omega (arith, f 2) }
-
-of-refusal-requires : tie.Need-of-refusal-requires
-of-refusal-requires c κs = rw (c .before .r2 .given .1) at (c .before .before .before .pre)
-
-returns : tie.Need-returns
-returns c =
-    let f = rw (c .before .r .given .1) at (c .before .before .before .pre) in
-    rw (c .before .r .given .1, signed _ (f 0), signed _ (f 1), signed _ (f 2))
-
-returns-2 : tie.Need-returns-2
-returns-2 c = rw (c .before .before .r2 .given .1) (c .of-refusal .ensures)
+-- the values of the accepted answer fit
+fit : (d : tie.After-r) → let x = d .r .given .0 in Fit63 (x .0 ∷ x .1 .0 ∷ x .1 .1 .0 ∷ [])
+fit d = rw (d .r .given .1) at (d .before .before .pre)
 
 pub of-text-spec : {M : Type 1} → statement M
-of-text-spec =
-    tie.close (tie.spec (λ c. search needs) cast-t7 cast-t8 cast-t9 (λ c. search needs) of-refusal-requires returns returns-2)
+of-text-spec = tie.close (tie.spec
+    (λ c. search needs) (λ c. record { sfits = omega (arith, fit (c .before) 0) })
+    (λ c. record { sfits = omega (arith, fit (c .before) 1) }) (λ c. record { sfits = omega (arith, fit (c .before) 2) })
+    (λ c. search needs) (λ c κs. rw (c .before .r2 .given .1) at (c .before .before .before .pre))
+    (λ c. let d = c .before in rw (d .r .given .1, signed _ (fit d 0), signed _ (fit d 1), signed _ (fit d 2)))
+    (λ c. rw (c .before .before .r2 .given .1) (c .of-refusal .ensures)))

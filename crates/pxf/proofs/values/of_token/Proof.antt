@@ -1,46 +1,25 @@
 -- The values of an answer, each below 2^63, stay themselves as signed numbers; the rest is 0, and a refusal's are its own. Assumes nothing.
-use borrow.Author.Needs.{needs}
+use mathlib.Core.List.{[], _∷_}
 use native.Mathlib.Omega.{arith}
+use borrow.Author.Needs.{needs}
 use Rattle.base.proofs.Signed.{signed}
+use Rattle.pxf.specs.Helpers.{Fit63}
 use Rattle.pxf.proofs.values.of_token.Statement.{statement}
 use Rattle.pxf.proofs.values.of_token.Tie as tie
 
-cast-t7 : tie.Need-cast-t7
-cast-t7 c =
-    let f = rw (c .before .r .given .1) at (c .before .before .before .pre) in
-    record { sfits = omega (arith, f 1) }
-
-cast-t8 : tie.Need-cast-t8
-cast-t8 c =
-    let f = rw (c .before .r .given .1) at (c .before .before .before .pre) in
-    record { sfits = omega (arith, f 2) }
-
-cast-t9 : tie.Need-cast-t9
-cast-t9 c =
-    let f = rw (c .before .before .r .given .1) at (c .before .before .before .before .pre) in
-    record { sfits = omega (arith, f 3) }
-
-cast-t10 : tie.Need-cast-t10
-cast-t10 c =
-    let f = rw (c .before .before .before .r .given .1) at (c .before .before .before .before .before .pre) in
-    record { sfits = omega (arith, f 4) }
-
-cast-t11 : tie.Need-cast-t11
-cast-t11 c =
-    let f = rw (c .before .before .before .before .r .given .1) at (c .before .before .before .before .before .before .pre) in
-    record { sfits = omega (arith, f 5) }
-
-of-refusal-requires : tie.Need-of-refusal-requires
-of-refusal-requires c κs = rw (c .before .r2 .given .1) at (c .before .before .before .pre)
-
-returns : tie.Need-returns
-returns c =
-    let f = rw (c .before .before .before .before .r .given .1) at (c .before .before .before .before .before .before .pre) in
-    rw (c .before .before .before .before .r .given .1, signed _ (f 1), signed _ (f 2), signed _ (f 3), signed _ (f 4), signed _ (f 5))
-
-returns-2 : tie.Need-returns-2
-returns-2 c = rw (c .before .before .r2 .given .1) (c .of-refusal .ensures)
+-- the values of the accepted answer fit
+fit : (d : tie.After-r) → let x = d .r .given .0 in
+    let p = x .1 .1 .0 in Fit63 (1 ∷ x .0 ∷ x .1 .0 ∷ p .offset ∷ p .line ∷ p .column ∷ [])
+fit d = rw (d .r .given .1) at (d .before .before .pre)
 
 pub of-token-spec : {M : Type 1} → statement M
-of-token-spec =
-    tie.close (tie.spec (λ c. search needs) cast-t7 cast-t8 cast-t9 cast-t10 cast-t11 (λ c. search needs) of-refusal-requires returns returns-2)
+of-token-spec = tie.close (tie.spec
+    (λ c. search needs) (λ c. record { sfits = omega (arith, fit (c .before) 1) })
+    (λ c. record { sfits = omega (arith, fit (c .before) 2) }) (λ c. record { sfits = omega (arith, fit (c .before .before) 3) })
+    (λ c. record { sfits = omega (arith, fit (c .before .before .before) 4) })
+    (λ c. record { sfits = omega (arith, fit (c .before .before .before .before) 5) }) (λ c. search needs)
+    (λ c κs. rw (c .before .r2 .given .1) at (c .before .before .before .pre))
+    (λ c.
+    let d = c .before .before .before .before in
+    rw (d .r .given .1, signed _ (fit d 1), signed _ (fit d 2), signed _ (fit d 3), signed _ (fit d 4), signed _ (fit d 5)))
+    (λ c. rw (c .before .before .r2 .given .1) (c .of-refusal .ensures)))

@@ -13,15 +13,6 @@ most-le : (m : Mode) (len : ℕ) → mostNotes m len ≤ len
 most-le Strict len = omega arith
 most-le Tolerant len = omega arith
 
-most-reports-requires : tie.Need-most-reports-requires
-most-reports-requires c κs = search needs
-
-add-records : tie.Need-add-records
-add-records c = search needs
-
-mul-records : tie.Need-mul-records
-mul-records c = search needs
-
 mul-result : tie.Need-mul-result
 mul-result c = record { fits = omega (arith, c .most-reports .ensures, most-le (modeOf (c .before .args .mode)) (c .before .args .len), c .before .pre) }
 
@@ -30,5 +21,4 @@ unfolding sufficeFor
 returns c = rw (← c .most-reports .ensures)
 
 pub suffice-spec : {M : Type 1} → statement M
-suffice-spec =
-    tie.close (tie.spec most-reports-requires add-records mul-records mul-result returns)
+suffice-spec = tie.close (tie.spec (λ c κs. search needs) (λ c. search needs) (λ c. search needs) mul-result returns)

@@ -4,11 +4,5 @@ use Rattle.base.proofs.Words.{same-test}
 use Rattle.scan.proofs.name.is_word.Statement.{statement}
 use Rattle.scan.proofs.name.is_word.Tie as tie
 
-same-requires : tie.Need-same-requires
-same-requires c κs = search needs
-
-returns : tie.Need-returns
-returns c = same-test _ _ _ (c .same .ensures .0) (c .same .ensures .1)
-
 pub is-word-spec : {M : Type 1} → statement M
-is-word-spec = tie.close (tie.spec same-requires returns)
+is-word-spec = tie.close (tie.spec (λ c κs. search needs) (λ c. same-test _ _ _ (c .same .ensures .0) (c .same .ensures .1)))

@@ -7,25 +7,11 @@ use Rattle.scan.proofs.Goes.{goes-fraction}
 use Rattle.scan.proofs.number.lex_digits.Statement.{statement}
 use Rattle.scan.proofs.number.lex_digits.Tie as tie
 
-reach-run-requires : tie.Need-reach-run-requires
-reach-run-requires c κs = search needs
-
-peek-requires : tie.Need-peek-requires
-peek-requires c κs = search needs
-
-lex-timestamp-requires : tie.Need-lex-timestamp-requires
-lex-timestamp-requires c κs = search needs
-
 returns : tie.Need-returns
 unfolding lexDigits
 returns c =
     let b = c .before .before in
     rw (← b .before .reach-run .ensures, ← b .peek .ensures, c .before .if1 .taken) (c .lex-timestamp .ensures)
-
-past-fraction-requires : tie.Need-past-fraction-requires
-past-fraction-requires c κs =
-    let b = c .before .before in
-    rw (b .reach-run .ensures) (reach-le (inRun _) _ _ (b .before .before .pre))
 
 lex-tail-requires : tie.Need-lex-tail-requires
 lex-tail-requires c κs =
@@ -39,13 +25,7 @@ returns-2 c =
     rw (← b .before .reach-run .ensures, ← b .peek .ensures, c .before .before .if1 .left, ← c .before .past-fraction .ensures) (c .lex-tail .ensures)
 
 pub lex-digits-spec : {M : Type 1} → statement M
-lex-digits-spec =
-    tie.close
-    (tie.spec
-    reach-run-requires
-    peek-requires
-    lex-timestamp-requires
-    returns
-    past-fraction-requires
-    lex-tail-requires
+lex-digits-spec = tie.close (tie.spec
+    (λ c κs. search needs) (λ c κs. search needs) (λ c κs. search needs) returns
+    (λ c κs. let b = c .before .before in rw (b .reach-run .ensures) (reach-le (inRun _) _ _ (b .before .before .pre))) lex-tail-requires
     returns-2)

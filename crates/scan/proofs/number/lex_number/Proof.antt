@@ -11,38 +11,18 @@ use Rattle.scan.specs.Number.{lexNumber}
 use Rattle.scan.proofs.number.lex_number.Statement.{statement}
 use Rattle.scan.proofs.number.lex_number.Tie as tie
 
-peek-requires : tie.Need-peek-requires
-peek-requires c κs = search needs
-
-at-inf-requires : tie.Need-at-inf-requires
-at-inf-requires c κs = search needs
-
-whole-requires : tie.Need-whole-requires
-whole-requires c κs = search needs
-
 returns : tie.Need-returns
 unfolding lexNumber
 returns c =
     let b = c .before .before in
     rw (← b .before .before .peek .ensures, ← b .at-inf .ensures, b .before .if1 .taken, c .before .if2 .taken) (c .whole .ensures)
 
-illegal-requires : tie.Need-illegal-requires
-illegal-requires c κs = search needs
-
 returns-2 : tie.Need-returns-2
 unfolding lexNumber
 returns-2 c =
     let b = c .before .before .before in
-    rw (← b .before .before .peek .ensures, ← b .at-inf .ensures, b .before .if1 .taken, c .before .before .if2 .left, c .before .if3 .taken) (c .illegal .ensures)
-
-peek-requires-2 : tie.Need-peek-requires-2
-peek-requires-2 c κs = search needs
-
-is-digit-requires : tie.Need-is-digit-requires
-is-digit-requires c κs = search needs
-
-illegal-requires-2 : tie.Need-illegal-requires-2
-illegal-requires-2 c κs = search needs
+    rw (← b .before .before .peek .ensures, ← b .at-inf .ensures, b .before .if1 .taken, c .before .before .if2 .left, c .before .if3 .taken)
+    (c .illegal .ensures)
 
 returns-3 : tie.Need-returns-3
 unfolding lexNumber
@@ -52,20 +32,8 @@ returns-3 c =
     let p = b .before .before .peek in
     let q : eqb (p .result) 43 ≡ false = ne-eqb _ _ (d .before .if3 .left) in
     let t : eqb (p .result) 45 ≡ true = rw q at (b .before .if1 .taken) in
-    rw (
-      ← p .ensures,
-      q,
-      t,
-      ← b .at-inf .ensures,
-      d .before .before .if2 .left,
-      ← d .peek2 .ensures,
-      ← c .before .before .is-digit .ensures,
-      c .before .if4 .taken,
-    )
-    (c .illegal2 .ensures)
-
-cast-lex-digits : tie.Need-cast-lex-digits
-cast-lex-digits c = search needs
+    let digit = c .before .before .is-digit .ensures in
+    rw (← p .ensures, q, t, ← b .at-inf .ensures, d .before .before .if2 .left, ← d .peek2 .ensures, ← digit, c .before .if4 .taken) (c .illegal2 .ensures)
 
 lex-digits-requires : tie.Need-lex-digits-requires
 lex-digits-requires c κs =
@@ -80,16 +48,7 @@ returns-4 c =
     (λ w.
     let q : eqb (p .result) 43 ≡ false = ne-eqb _ _ (w .3 .left) in
     let t : eqb (p .result) 45 ≡ true = rw q at (w .0 .taken) in
-    rw (
-      ← p .ensures,
-      q,
-      t,
-      ← w .1 .ensures,
-      w .2 .left,
-      ← w .4 .ensures,
-      ← w .5 .ensures,
-      w .6 .left,
-    )
+    rw (← p .ensures, q, t, ← w .1 .ensures, w .2 .left, ← w .4 .ensures, ← w .5 .ensures, w .6 .left)
     (rw (q, t) at (c .lex-digits .ensures)))
     (λ w.
     let q : eqb (p .result) 43 ≡ false = or-left (eqb (p .result) 43) (eqb (p .result) 45) (w .left) in
@@ -98,19 +57,6 @@ returns-4 c =
     (c .before .if1 .came)
 
 pub lex-number-spec : {M : Type 1} → statement M
-lex-number-spec =
-    tie.close
-    (tie.spec
-    peek-requires
-    at-inf-requires
-    whole-requires
-    returns
-    illegal-requires
-    returns-2
-    peek-requires-2
-    is-digit-requires
-    illegal-requires-2
-    returns-3
-    cast-lex-digits
-    lex-digits-requires
-    returns-4)
+lex-number-spec = tie.close (tie.spec
+    (λ c κs. search needs) (λ c κs. search needs) (λ c κs. search needs) returns (λ c κs. search needs) returns-2 (λ c κs. search needs)
+    (λ c κs. search needs) (λ c κs. search needs) returns-3 (λ c. search needs) lex-digits-requires returns-4)

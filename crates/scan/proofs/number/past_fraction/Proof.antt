@@ -4,24 +4,6 @@ use Rattle.scan.specs.Number.{pastFraction}
 use Rattle.scan.proofs.number.past_fraction.Statement.{statement}
 use Rattle.scan.proofs.number.past_fraction.Tie as tie
 
-peek-requires : tie.Need-peek-requires
-peek-requires c κs = search needs
-
-add-peek : tie.Need-add-peek
-add-peek c = search needs
-
-peek-requires-2 : tie.Need-peek-requires-2
-peek-requires-2 c κs = search needs
-
-is-digit-requires : tie.Need-is-digit-requires
-is-digit-requires c κs = search needs
-
-add-reach-run : tie.Need-add-reach-run
-add-reach-run c = search needs
-
-reach-run-requires : tie.Need-reach-run-requires
-reach-run-requires c κs = search needs
-
 returns : tie.Need-returns
 unfolding pastFraction
 returns c =
@@ -35,14 +17,6 @@ returns-2 c =
     rw (← b .before .before .peek .ensures, ← b .before .peek2 .ensures, ← b .is-digit .ensures, c .if1 .left)
 
 pub past-fraction-spec : {M : Type 1} → statement M
-past-fraction-spec =
-    tie.close
-    (tie.spec
-    peek-requires
-    add-peek
-    peek-requires-2
-    is-digit-requires
-    add-reach-run
-    reach-run-requires
-    returns
-    returns-2)
+past-fraction-spec = tie.close (tie.spec
+    (λ c κs. search needs) (λ c. search needs) (λ c κs. search needs) (λ c κs. search needs) (λ c. search needs) (λ c κs. search needs)
+    returns returns-2)

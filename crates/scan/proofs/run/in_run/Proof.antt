@@ -4,77 +4,9 @@ use Rattle.scan.specs.Run.{inRun}
 use Rattle.scan.proofs.run.in_run.Statement.{statement}
 use Rattle.scan.proofs.run.in_run.Tie as tie
 
-enum-told : tie.Need-enum-told
-enum-told c = search needs
-
-is-space-requires : tie.Need-is-space-requires
-is-space-requires c κs = search needs
-
-enum-told-2 : tie.Need-enum-told-2
-enum-told-2 c = search needs
-
-enum-told-3 : tie.Need-enum-told-3
-enum-told-3 c = search needs
-
-enum-told-4 : tie.Need-enum-told-4
-enum-told-4 c = search needs
-
-is-ident-part-requires : tie.Need-is-ident-part-requires
-is-ident-part-requires c κs = search needs
-
-enum-told-5 : tie.Need-enum-told-5
-enum-told-5 c = search needs
-
-is-digit-requires : tie.Need-is-digit-requires
-is-digit-requires c κs = search needs
-
-enum-told-6 : tie.Need-enum-told-6
-enum-told-6 c = search needs
-
-ends-timestamp-requires : tie.Need-ends-timestamp-requires
-ends-timestamp-requires c κs = search needs
-
-returns : tie.Need-returns
-unfolding inRun
-returns c = cc
-
-returns-2 : tie.Need-returns-2
-unfolding inRun
-returns-2 c = cc
-
-returns-3 : tie.Need-returns-3
-unfolding inRun
-returns-3 c = cc
-
-returns-4 : tie.Need-returns-4
-unfolding inRun
-returns-4 c = cc
-
-returns-5 : tie.Need-returns-5
-unfolding inRun
-returns-5 c = cc
-
-returns-6 : tie.Need-returns-6
-unfolding inRun
-returns-6 c = cc
-
 pub in-run-spec : {M : Type 1} → statement M
-in-run-spec =
-    tie.close
-    (tie.spec
-    enum-told
-    is-space-requires
-    enum-told-2
-    enum-told-3
-    enum-told-4
-    is-ident-part-requires
-    enum-told-5
-    is-digit-requires
-    enum-told-6
-    ends-timestamp-requires
-    returns
-    returns-2
-    returns-3
-    returns-4
-    returns-5
-    returns-6)
+unfolding inRun
+in-run-spec = tie.close (tie.spec
+    (λ c. search needs) (λ c κs. search needs) (λ c. search needs) (λ c. search needs) (λ c. search needs) (λ c κs. search needs)
+    (λ c. search needs) (λ c κs. search needs) (λ c. search needs) (λ c κs. search needs) (λ c. cc) (λ c. cc) (λ c. cc) (λ c. cc) (λ c. cc)
+    (λ c. cc))

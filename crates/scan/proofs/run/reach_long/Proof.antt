@@ -16,33 +16,6 @@ Inv-loop k s at i₀ i = reach (inRun k) s i ≡ reach (inRun k) s at
 abbrev μ-loop : tie.MeasureT-loop
 μ-loop k s at i₀ i = length s - i
 
-returns : tie.Need-returns Inv-loop μ-loop
-returns c = sym (reach-end (inRun _) _ _ (omega (arith, c .if1 .taken)))
-
-past-blocks-requires : tie.Need-past-blocks-requires Inv-loop μ-loop
-past-blocks-requires c κs = search needs
-
-loop-holds : tie.Need-loop-holds Inv-loop μ-loop
-loop-holds c = c .past-blocks .ensures .same
-
-shared-slice-read-in-run : tie.Need-shared-slice-read-in-run Inv-loop μ-loop
-shared-slice-read-in-run c = search needs
-
-add-peek : tie.Need-add-peek Inv-loop μ-loop
-add-peek c = search needs
-
-peek-requires : tie.Need-peek-requires Inv-loop μ-loop
-peek-requires c κs = search needs
-
-in-run-requires : tie.Need-in-run-requires Inv-loop μ-loop
-in-run-requires c κs = search needs
-
-add-i : tie.Need-add-i Inv-loop μ-loop
-add-i c = search needs
-
-loop-less : tie.Need-loop-less Inv-loop μ-loop
-loop-less c = search needs
-
 loop-again : tie.Need-loop-again Inv-loop μ-loop
 loop-again c =
     let b = c .before .before .before .before in
@@ -53,24 +26,9 @@ returns-2 c =
     let b = c .before .before .before .before in
     sym (reach-stop (inRun _) _ _ (b .loop-test .taken) (cc)) ∙ b .before .loop .inv
 
-returns-3 : tie.Need-returns-3 Inv-loop μ-loop
-returns-3 c = sym (reach-end (inRun _) _ _ (c .loop-test .left)) ∙ c .before .loop .inv
-
 pub reach-long-spec : {M : Type 1} → statement M
-reach-long-spec =
-    tie.close
-    (tie.spec
-    Inv-loop
-    μ-loop
-    returns
-    past-blocks-requires
-    loop-holds
-    shared-slice-read-in-run
-    add-peek
-    peek-requires
-    in-run-requires
-    add-i
-    loop-less
-    loop-again
-    returns-2
-    returns-3)
+reach-long-spec = tie.close (tie.spec
+    Inv-loop μ-loop (λ c. sym (reach-end (inRun _) _ _ (omega (arith, c .if1 .taken)))) (λ c κs. search needs)
+    (λ c. c .past-blocks .ensures .same) (λ c. search needs) (λ c. search needs) (λ c κs. search needs) (λ c κs. search needs)
+    (λ c. search needs) (λ c. search needs) loop-again returns-2
+    (λ c. sym (reach-end (inRun _) _ _ (c .loop-test .left)) ∙ c .before .loop .inv))

@@ -4,56 +4,8 @@ use borrow.Author.Needs.{needs}
 use Rattle.strings.proofs.lex.end_detail.Statement.{statement}
 use Rattle.strings.proofs.lex.end_detail.Tie as tie
 
-enum-told : tie.Need-enum-told
-enum-told c = search needs
-
-enum-told-2 : tie.Need-enum-told-2
-enum-told-2 c = search needs
-
-enum-told-3 : tie.Need-enum-told-3
-enum-told-3 c = search needs
-
-enum-told-4 : tie.Need-enum-told-4
-enum-told-4 c = search needs
-
-enum-known-end : tie.Need-enum-known-end
-enum-known-end c = search needs
-
-letter-detail-requires : tie.Need-letter-detail-requires
-letter-detail-requires c κs = search needs
-
-returns : tie.Need-returns
-unfolding endDetail
-returns c = cc
-
-returns-2 : tie.Need-returns-2
-unfolding endDetail
-returns-2 c = cc
-
-returns-3 : tie.Need-returns-3
-unfolding endDetail
-returns-3 c = cc
-
-returns-4 : tie.Need-returns-4
-unfolding endDetail
-returns-4 c = cc
-
-returns-5 : tie.Need-returns-5
-unfolding endDetail
-returns-5 c = cc
-
 pub end-detail-spec : {M : Type 1} → statement M
-end-detail-spec =
-    tie.close
-    (tie.spec
-    enum-told
-    enum-told-2
-    enum-told-3
-    enum-told-4
-    enum-known-end
-    letter-detail-requires
-    returns
-    returns-2
-    returns-3
-    returns-4
-    returns-5)
+unfolding endDetail
+end-detail-spec = tie.close (tie.spec
+    (λ c. search needs) (λ c. search needs) (λ c. search needs) (λ c. search needs) (λ c. search needs) (λ c κs. search needs) (λ c. cc)
+    (λ c. cc) (λ c. cc) (λ c. cc) (λ c. cc))

@@ -1,12 +1,14 @@
 -- `put_string` stores what is left after what is stored already: all of it where it is text, else a run of bytes that stand for themselves,
--- then the closing quote, escapes of one letter, or a step. Assumes nothing.
-use Rattle.strings.proofs.Closings.{left-in, left-room, left-source, text-left, last-same, last-copied}
-use Rattle.strings.proofs.Turns.{Writing, writing-first, run-ge, run-in, copy-room, copy-source, copy-fits, copied, simple-room, simple-in, unescaped, simple-fits, no-escape, writing-stop, text-in, text-less, put-four, put-room, writing-go, quote-stop}
+-- then the closing quote, escapes of one letter, or a step. What is stored so far is named stage by stage. Assumes nothing.
 use mathlib.Core.Path.{refl}
-use lib.ListN.{length}
-use Prim.Native.Nat.{_-_}
+use mathlib.Core.List.{List}
+use Prim.Native.Nat.{ℕ, _+_, _-_, _*_}
 use native.Mathlib.Omega.{arith}
+use lib.ListN.{length}
 use borrow.Author.Needs.{needs}
+use Rattle.strings.proofs.Decodes.{run-ge, run-source, run-gives, simple-gives, step-four, step-gives, step-less}
+use Rattle.strings.proofs.Turns.{quote-stop, Writing, writing-first, writing-room, writing-more, writing-none, writing-stop}
+use Rattle.strings.proofs.Closings.{left-in, left-room, left-source, text-left, last-same, last-copied}
 use Rattle.strings.proofs.lex.put_string.Statement.{statement}
 use Rattle.strings.proofs.lex.put_string.Tie as tie
 
@@ -16,218 +18,116 @@ Inv-loop s mode len size out₀ place strict until i₀ p₀ out i p = Writing m
 abbrev μ-loop : tie.MeasureT-loop
 μ-loop s mode len size out₀ place strict until i₀ p₀ out i p = length s - i
 
-is-strict-requires : tie.Need-is-strict-requires Inv-loop μ-loop
-is-strict-requires c κs = search needs
+-- ---- the stages
 
-add-until : tie.Need-add-until Inv-loop μ-loop
-add-until c = search needs
+abbrev turn : tie.After-copy2 Inv-loop μ-loop → tie.At-loop Inv-loop μ-loop
+turn d = d .before .before .before .before
 
-loop-holds : tie.Need-loop-holds Inv-loop μ-loop
-loop-holds c = search writing-first
+abbrev entry : tie.After-copy2 Inv-loop μ-loop → tie.Start Inv-loop μ-loop
+entry d = turn d .before .before .before .before
 
-sub-left : tie.Need-sub-left Inv-loop μ-loop
-sub-left c = search left-in
+abbrev run-end : tie.After-copy2 Inv-loop μ-loop → ℕ
+run-end d = d .before .before .ordinary-end .result
 
-add-if1 : tie.Need-add-if1 Inv-loop μ-loop
-add-if1 c =
-    let a = c .before .before .before .before in
-    record { fits = omega (arith, left-source _ _ _ _ _ _ _ _ _ (c .loop .inv), a .good) }
+abbrev next : tie.After-copy2 Inv-loop μ-loop → ℕ
+next d = turn d .loop .p + (run-end d - turn d .loop .i)
 
-sub-if1 : tie.Need-sub-if1 Inv-loop μ-loop
-sub-if1 c = search text-left
+-- the text is read up to j, and the next byte goes to p
+abbrev Written : tie.After-copy2 Inv-loop μ-loop → List ℕ → ℕ → ℕ → Type 0
+Written d out j p =
+    let a = entry d .args in
+    Writing (a .mode) (a .s .now) (a .len) (a .out .now) (a .place) (a .place + a .size) out j p
 
-copy-requires : tie.Need-copy-requires Inv-loop μ-loop
-copy-requires c κs = search (left-room, left-source)
+-- the run is copied
+copied : (d : tie.After-copy2 Inv-loop μ-loop) → Written d (d .copy2 .last .0) (run-end d) (next d)
+copied d =
+    let u = turn d .loop .inv in
+    writing-more u (run-gives _ _ _ (d .before .before .ordinary-end .ensures) (u .inside) _) _ (d .copy2 .ensures)
 
-same-length : tie.Need-same-length Inv-loop μ-loop
-same-length c =
-    let b = c .before .before in
-    last-same _ _ _ _ _ _ _ _ _ (b .before .before .before .loop .inv) _ (b .copy .ensures)
+abbrev run : tie.After-put-simple Inv-loop μ-loop → tie.After-copy2 Inv-loop μ-loop
+run b = b .before .before .before .before .before .before
+
+-- the escapes after it are stored
+escaped : (b : tie.After-put-simple Inv-loop μ-loop)
+    → let n = b .put-simple .result in Written (run b) (b .put-simple .last .1 .1 .0) (run-end (run b) + 2 * n) (next (run b) + n)
+escaped b =
+    let w = copied (run b) in
+    writing-more w (simple-gives _ _ _ (w .inside) (b .put-simple .ensures .0) _) _ (b .put-simple .ensures .1)
+
+-- the run before a step
+abbrev step-run : tie.Else3 Inv-loop μ-loop → tie.After-copy2 Inv-loop μ-loop
+step-run c = run (c .before .before .before)
+
+abbrev no-escapes : tie.After-put Inv-loop μ-loop → tie.Else3 Inv-loop μ-loop
+no-escapes d = d .before .before .before .before .before .before
+
+-- there are none
+stepping : (c : tie.Else3 Inv-loop μ-loop)
+    → let r = step-run c in Written r (c .before .before .before .put-simple .last .1 .1 .0) (run-end r) (next r)
+stepping c = writing-none _ _ _ (escaped (c .before .before .before)) (c .if3 .left)
+
+-- the bytes of a step are stored
+stepped : (d : tie.After-put Inv-loop μ-loop)
+    → let r = step-run (no-escapes d) in
+    let g = d .before .before .before .st .given .0 in
+    Written r (d .put .last .0) (run-end r + g .1 .1 .1 .1 .1 .0) (next r + g .0)
+stepped d =
+    let v = stepping (no-escapes d) in
+    writing-more v (step-gives _ _ _ (d .before .before .before .before .before .step-at .ensures) (d .before .before .before .st .given .1) (v .inside))
+    _ (d .put .ensures)
+
+-- ---- the needs
 
 returns : tie.Need-returns Inv-loop μ-loop
 returns c =
     let b = c .before .before in
     let l = b .before .before .before in
-    last-copied _ _ _ _ _ _ _ _ _ (l .loop .inv) _ (b .copy .ensures) _ (l .before .is-strict .ensures) (b .before .before .if1 .taken)
-
-ordinary-end-requires : tie.Need-ordinary-end-requires Inv-loop μ-loop
-ordinary-end-requires c κs = search needs
-
-sub-n : tie.Need-sub-n Inv-loop μ-loop
-sub-n c = search run-ge
+    last-copied (l .loop .inv) (b .copy .ensures) _ (l .before .is-strict .ensures) (b .before .before .if1 .taken)
 
 copy-requires-2 : tie.Need-copy-requires-2 Inv-loop μ-loop
-copy-requires-2 c κs = search (copy-room, copy-source)
-
-add-p : tie.Need-add-p Inv-loop μ-loop
-add-p c = search copy-fits
-
-peek-requires : tie.Need-peek-requires Inv-loop μ-loop
-peek-requires c κs = search needs
-
-same-length-2 : tie.Need-same-length-2 Inv-loop μ-loop
-same-length-2 c =
-    let g = c .before .before .before .before in
-    copied _ _ _ _ _ _ _ _ _ (g .before .before .before .before .loop .inv) _ (g .before .before .ordinary-end .ensures) _ (g .copy2 .ensures) .same
-
-returns-2 : tie.Need-returns-2 Inv-loop μ-loop
-returns-2 c =
-    let g = c .before .before .before .before in
-    let w = copied _ _ _ _ _ _ _ _ _ (g .before .before .before .before .loop .inv) _ (g .before .before .ordinary-end .ensures) _ (g .copy2 .ensures) in
-    writing-stop _ _ _ _ _ _ _ _ _ w _ (quote-stop _ _ _ _ (c .before .peek .ensures) (c .if2 .taken)) _ _ refl
+copy-requires-2 c κs =
+    let u = c .before .before .before .loop .inv in
+    let r = c .before .ordinary-end .ensures in
+    search (writing-room u (run-gives _ _ _ r (u .inside) _), run-source _ _ _ r (u .inside))
 
 put-simple-requires : tie.Need-put-simple-requires Inv-loop μ-loop
 put-simple-requires c κs =
-    let g = c .before .before .before .before .before in
-    let u = g .before .before .before .before .loop .inv in
-    let e = g .before .before .ordinary-end .ensures in
-    (run-in _ _ _ _ _ _ _ _ _ u _ e, simple-room _ _ _ _ _ _ _ _ _ (copied _ _ _ _ _ _ _ _ _ u _ e _ (g .copy2 .ensures)))
-
-add-p-2 : tie.Need-add-p-2 Inv-loop μ-loop
-add-p-2 c =
-    let b = c .before .before .before in
-    let g = b .before .before .before .before .before .before in
-    let w = copied _ _ _ _ _ _ _ _ _ (g .before .before .before .before .loop .inv) _ (g .before .before .ordinary-end .ensures) _ (g .copy2 .ensures) in
-    let start = g .before .before .before .before .before .before .before .before .good in
-    simple-fits _ _ _ _ _ _ _ _ _ w _ (b .put-simple .ensures .0) _ (b .put-simple .ensures .1) (omega (arith, start))
-
-mul-i : tie.Need-mul-i Inv-loop μ-loop
-mul-i c =
-    let b = c .before .before .before in
-    let g = b .before .before .before .before .before .before in
-    let w = copied _ _ _ _ _ _ _ _ _ (g .before .before .before .before .loop .inv) _ (g .before .before .ordinary-end .ensures) _ (g .copy2 .ensures) in
-    omega (arith, simple-in _ _ _ _ _ _ _ _ _ w _ (b .put-simple .ensures .0) _ (b .put-simple .ensures .1))
-
-add-i : tie.Need-add-i Inv-loop μ-loop
-add-i c =
-    let b = c .before .before .before in
-    let g = b .before .before .before .before .before .before in
-    let w = copied _ _ _ _ _ _ _ _ _ (g .before .before .before .before .loop .inv) _ (g .before .before .ordinary-end .ensures) _ (g .copy2 .ensures) in
-    omega (arith, simple-in _ _ _ _ _ _ _ _ _ w _ (b .put-simple .ensures .0) _ (b .put-simple .ensures .1))
+    let w = copied (c .before .before .before .before .before) in
+    (w .inside, writing-room w (simple-gives _ _ _ (w .inside) refl _))
 
 loop-less : tie.Need-loop-less Inv-loop μ-loop
 loop-less c =
     let b = c .before .before .before in
-    let g = b .before .before .before .before .before .before in
-    let w = copied _ _ _ _ _ _ _ _ _ (g .before .before .before .before .loop .inv) _ (g .before .before .ordinary-end .ensures) _ (g .copy2 .ensures) in
-    omega (arith, c .if3 .taken, simple-in _ _ _ _ _ _ _ _ _ w _ (b .put-simple .ensures .0) _ (b .put-simple .ensures .1), run-ge _ _ _ _ _ _ _ _ _ (g .before .before .before .before .loop .inv) _ (g .before .before .ordinary-end .ensures))
-
-loop-again : tie.Need-loop-again Inv-loop μ-loop
-loop-again c =
-    let b = c .before .before .before in
-    let g = b .before .before .before .before .before .before in
-    let w = copied _ _ _ _ _ _ _ _ _ (g .before .before .before .before .loop .inv) _ (g .before .before .ordinary-end .ensures) _ (g .copy2 .ensures) in
-    unescaped _ _ _ _ _ _ _ _ _ w _ (b .put-simple .ensures .0) _ (b .put-simple .ensures .1)
-
-step-at-requires : tie.Need-step-at-requires Inv-loop μ-loop
-step-at-requires c κs = search run-in
-
-enum-known-st : tie.Need-enum-known-st Inv-loop μ-loop
-enum-known-st c = search needs
+    omega (arith, c .if3 .taken, escaped b .inside, run-ge _ _ _ (run b .before .before .ordinary-end .ensures))
 
 put-requires : tie.Need-put-requires Inv-loop μ-loop
 put-requires c κs =
     let q = c .before .before .before .before in
-    let b = c .before .before .before .before .before .before .before .before in
-    let g = b .before .before .before .before .before .before in
-    let w = copied _ _ _ _ _ _ _ _ _ (g .before .before .before .before .loop .inv) _ (g .before .before .ordinary-end .ensures) _ (g .copy2 .ensures) in
-    let v = no-escape _ _ _ _ _ _ _ _ _ w _ (b .put-simple .ensures .0) _ (b .put-simple .ensures .1) (q .before .if3 .left) in
-    search (put-four _ _ _ _ _ _ _ _ _ v _ (q .step-at .ensures), put-room _ _ _ _ _ _ _ _ _ v _ (q .step-at .ensures))
-
-add-p-3 : tie.Need-add-p-3 Inv-loop μ-loop
-add-p-3 c =
-    let q = c .before .before .before .before .before .before .before in
-    let b = c .before .before .before .before .before .before .before .before .before .before .before in
-    let g = b .before .before .before .before .before .before in
-    let w = copied _ _ _ _ _ _ _ _ _ (g .before .before .before .before .loop .inv) _ (g .before .before .ordinary-end .ensures) _ (g .copy2 .ensures) in
-    let start = g .before .before .before .before .before .before .before .before .good in
-    let v = no-escape _ _ _ _ _ _ _ _ _ w _ (b .put-simple .ensures .0) _ (b .put-simple .ensures .1) (q .before .if3 .left) in
-    record { fits = omega (arith, put-room _ _ _ _ _ _ _ _ _ v _ (q .step-at .ensures) _ _ _ _ _ _ _ (c .before .before .before .before .before .st .given .1), v .same, start) }
-
-add-i-2 : tie.Need-add-i-2 Inv-loop μ-loop
-add-i-2 c =
-    let q = c .before .before .before .before .before .before .before in
-    let b = c .before .before .before .before .before .before .before .before .before .before .before in
-    let g = b .before .before .before .before .before .before in
-    let w = copied _ _ _ _ _ _ _ _ _ (g .before .before .before .before .loop .inv) _ (g .before .before .ordinary-end .ensures) _ (g .copy2 .ensures) in
-    let start = g .before .before .before .before .before .before .before .before .good in
-    let v = no-escape _ _ _ _ _ _ _ _ _ w _ (b .put-simple .ensures .0) _ (b .put-simple .ensures .1) (q .before .if3 .left) in
-    record { fits = omega (arith, text-in _ _ _ _ _ _ _ _ _ v _ (q .step-at .ensures) _ _ _ _ _ _ _ (c .before .before .before .before .before .st .given .1), start) }
+    let v = stepping (q .before) in
+    let g = c .before .before .st .given .1 in
+    (step-four _ _ _ (q .step-at .ensures) g, writing-room v (step-gives _ _ _ (q .step-at .ensures) g (v .inside)))
 
 loop-less-2 : tie.Need-loop-less-2 Inv-loop μ-loop
 loop-less-2 c =
-    let q = c .before .before .before .before .before .before .before in
-    let b = c .before .before .before .before .before .before .before .before .before .before .before in
-    let g = b .before .before .before .before .before .before in
-    let w = copied _ _ _ _ _ _ _ _ _ (g .before .before .before .before .loop .inv) _ (g .before .before .ordinary-end .ensures) _ (g .copy2 .ensures) in
-    let v = no-escape _ _ _ _ _ _ _ _ _ w _ (b .put-simple .ensures .0) _ (b .put-simple .ensures .1) (q .before .if3 .left) in
-    search (text-less _ _ _ _ _ _ _ _ _ v _ (q .step-at .ensures), run-ge _ _ _ _ _ _ _ _ _ (g .before .before .before .before .loop .inv) _ (g .before .before .ordinary-end .ensures))
-
-loop-again-2 : tie.Need-loop-again-2 Inv-loop μ-loop
-loop-again-2 c =
-    let q = c .before .before .before .before .before .before .before in
-    let b = c .before .before .before .before .before .before .before .before .before .before .before in
-    let g = b .before .before .before .before .before .before in
-    let w = copied _ _ _ _ _ _ _ _ _ (g .before .before .before .before .loop .inv) _ (g .before .before .ordinary-end .ensures) _ (g .copy2 .ensures) in
-    let v = no-escape _ _ _ _ _ _ _ _ _ w _ (b .put-simple .ensures .0) _ (b .put-simple .ensures .1) (q .before .if3 .left) in
-    search (writing-go _ _ _ _ _ _ _ _ _ v _ (q .step-at .ensures))
-
-enum-told : tie.Need-enum-told Inv-loop μ-loop
-enum-told c = search needs
-
-same-length-3 : tie.Need-same-length-3 Inv-loop μ-loop
-same-length-3 c =
-    let q = c .before .before in
-    let b = c .before .before .before .before .before .before in
-    let g = b .before .before .before .before .before .before in
-    let w = copied _ _ _ _ _ _ _ _ _ (g .before .before .before .before .loop .inv) _ (g .before .before .ordinary-end .ensures) _ (g .copy2 .ensures) in
-    let v = no-escape _ _ _ _ _ _ _ _ _ w _ (b .put-simple .ensures .0) _ (b .put-simple .ensures .1) (q .before .if3 .left) in
-    v .same
-
-returns-3 : tie.Need-returns-3 Inv-loop μ-loop
-returns-3 c =
-    let q = c .before .before in
-    let b = c .before .before .before .before .before .before in
-    let g = b .before .before .before .before .before .before in
-    let w = copied _ _ _ _ _ _ _ _ _ (g .before .before .before .before .loop .inv) _ (g .before .before .ordinary-end .ensures) _ (g .copy2 .ensures) in
-    let v = no-escape _ _ _ _ _ _ _ _ _ w _ (b .put-simple .ensures .0) _ (b .put-simple .ensures .1) (q .before .if3 .left) in
-    search (writing-stop _ _ _ _ _ _ _ _ _ v _ (q .step-at .ensures))
+    let s = c .before .before .before .before .before in
+    let q = s .before .before in
+    step-less _ _ _ (q .step-at .ensures) (s .st .given .1) (stepping (q .before) .inside) _
+    (run-ge _ _ _ (step-run (q .before) .before .before .ordinary-end .ensures))
 
 pub put-string-spec : {M : Type 1} → statement M
-put-string-spec =
-    tie.close
-    (tie.spec
-    Inv-loop
-    μ-loop
-    is-strict-requires
-    add-until
-    loop-holds
-    sub-left
-    add-if1
-    sub-if1
-    copy-requires
-    same-length
-    returns
-    ordinary-end-requires
-    sub-n
-    copy-requires-2
-    add-p
-    peek-requires
-    same-length-2
-    returns-2
-    put-simple-requires
-    add-p-2
-    mul-i
-    add-i
-    loop-less
-    loop-again
-    step-at-requires
-    enum-known-st
-    put-requires
-    add-p-3
-    add-i-2
-    loop-less-2
-    loop-again-2
-    enum-told
-    same-length-3
-    returns-3)
+put-string-spec = tie.close (tie.spec
+    Inv-loop μ-loop (λ c κs. search needs) (λ c. search needs) (λ c. search writing-first) (λ c. search left-in)
+    (λ c. omega (arith, left-source (c .loop .inv), c .before .before .before .before .good)) (λ c. search text-left)
+    (λ c κs. search (left-room, left-source))
+    (λ c. last-same (c .before .before .before .before .before .loop .inv) (c .before .before .copy .ensures)) returns
+    (λ c κs. search needs) (λ c. search run-ge) copy-requires-2
+    (λ c. let d = c .before .before in omega (arith, copied d .store .room, entry d .good)) (λ c κs. search needs)
+    (λ c. copied (c .before .before .before .before) .store .same)
+    (λ c. writing-stop (copied (c .before .before .before .before)) (quote-stop _ _ _ _ (c .before .peek .ensures) (c .if2 .taken)) refl)
+    put-simple-requires (λ c. let b = c .before .before .before in omega (arith, escaped b .store .room, entry (run b) .good))
+    (λ c. omega (arith, escaped (c .before .before .before) .inside)) (λ c. omega (arith, escaped (c .before .before .before) .inside))
+    loop-less (λ c. escaped (c .before .before .before)) (λ c κs. stepping c .inside) (λ c. search needs) put-requires
+    (λ c. let d = c .before .before in omega (arith, stepped d .store .room, entry (step-run (no-escapes d)) .good))
+    (λ c. let d = c .before .before in omega (arith, stepped d .inside, entry (step-run (no-escapes d)) .good)) loop-less-2
+    (λ c. stepped (c .before .before)) (λ c. search needs) (λ c. stepping (c .before .before .before) .store .same)
+    (λ c. search (writing-stop (stepping (c .before .before .before)))))

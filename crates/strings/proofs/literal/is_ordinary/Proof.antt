@@ -4,9 +4,6 @@ use mathlib.Core.Path.{refl}
 use Rattle.strings.proofs.literal.is_ordinary.Statement.{statement}
 use Rattle.strings.proofs.literal.is_ordinary.Tie as tie
 
-returns : tie.Need-returns
-unfolding isOrdinary
-returns c = refl
-
 pub is-ordinary-spec : {M : Type 1} → statement M
-is-ordinary-spec = tie.close (tie.spec returns)
+unfolding isOrdinary
+is-ordinary-spec = tie.close (tie.spec (λ c. refl))

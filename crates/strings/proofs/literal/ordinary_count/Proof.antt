@@ -14,57 +14,19 @@ Inv-loop s none m₀ j₀ m j = (j ≤ length s) × Searched isOrdinary s j m
 abbrev μ-loop : tie.MeasureT-loop
 μ-loop s none m₀ j₀ m j = length s - j
 
-cast-none : tie.Need-cast-none Inv-loop μ-loop
-cast-none c = search needs
-
-loop-holds : tie.Need-loop-holds Inv-loop μ-loop
-loop-holds c = (omega arith, searched-first isOrdinary _)
-
-cast-is-ordinary : tie.Need-cast-is-ordinary Inv-loop μ-loop
-cast-is-ordinary c = search needs
-
-shared-slice-read-is-ordinary : tie.Need-shared-slice-read-is-ordinary Inv-loop μ-loop
-shared-slice-read-is-ordinary c = search needs
-
-is-ordinary-requires : tie.Need-is-ordinary-requires Inv-loop μ-loop
-is-ordinary-requires c κs = search needs
-
-earlier-requires : tie.Need-earlier-requires Inv-loop μ-loop
-earlier-requires c κs = search needs
-
-add-j : tie.Need-add-j Inv-loop μ-loop
-add-j c = search needs
-
-loop-less : tie.Need-loop-less Inv-loop μ-loop
-loop-less c = search needs
-
 loop-again : tie.Need-loop-again Inv-loop μ-loop
 loop-again c =
     let l = c .before .before .before in
-    (omega (arith, l .loop-test .taken), rw (c .earlier .ensures, c .before .is-ordinary .ensures) (searched-turn isOrdinary _ _ _ (l .loop-test .taken) (l .before .loop .inv .1)))
+    let turn = searched-turn isOrdinary _ _ _ (l .loop-test .taken) (l .before .loop .inv .1) in
+    (omega (arith, l .loop-test .taken), rw (c .earlier .ensures, c .before .is-ordinary .ensures) turn)
 
 cast-result : tie.Need-cast-result Inv-loop μ-loop
 cast-result c =
     let l = searched-le isOrdinary _ _ _ (c .before .loop .inv .1) in
     record { fits = omega (arith, l, c .before .before .before .pre) }
 
-returns : tie.Need-returns Inv-loop μ-loop
-returns c = searched-end isOrdinary _ _ _ (c .loop-test .left) (c .before .loop .inv .1)
-
 pub ordinary-count-spec : {M : Type 1} → statement M
-ordinary-count-spec =
-    tie.close
-    (tie.spec
-    Inv-loop
-    μ-loop
-    cast-none
-    loop-holds
-    cast-is-ordinary
-    shared-slice-read-is-ordinary
-    is-ordinary-requires
-    earlier-requires
-    add-j
-    loop-less
-    loop-again
-    cast-result
-    returns)
+ordinary-count-spec = tie.close (tie.spec
+    Inv-loop μ-loop (λ c. search needs) (λ c. (omega arith, searched-first isOrdinary _)) (λ c. search needs) (λ c. search needs)
+    (λ c κs. search needs) (λ c κs. search needs) (λ c. search needs) (λ c. search needs) loop-again cast-result
+    (λ c. searched-end isOrdinary _ _ _ (c .loop-test .left) (c .before .loop .inv .1)))

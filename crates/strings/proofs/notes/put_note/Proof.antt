@@ -4,22 +4,7 @@ use borrow.Author.Needs.{needs}
 use Rattle.strings.proofs.notes.put_note.Statement.{statement}
 use Rattle.strings.proofs.notes.put_note.Tie as tie
 
-walk-requires : tie.Need-walk-requires
-walk-requires c κs = search needs
-
-letter-detail-requires : tie.Need-letter-detail-requires
-letter-detail-requires c κs = search needs
-
-put-report-requires : tie.Need-put-report-requires
-put-report-requires c κs = search (needs, escape-fits)
-
-same-length : tie.Need-same-length
-same-length c = search needs
-
-returns : tie.Need-returns
-returns c = search (needs, escape-put)
-
 pub put-note-spec : {M : Type 1} → statement M
-put-note-spec =
-    tie.close
-    (tie.spec walk-requires letter-detail-requires put-report-requires same-length returns)
+put-note-spec = tie.close (tie.spec
+    (λ c κs. search needs) (λ c κs. search needs) (λ c κs. search (needs, escape-fits)) (λ c. search needs)
+    (λ c. search (needs, escape-put)))

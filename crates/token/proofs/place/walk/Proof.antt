@@ -2,10 +2,11 @@
 use mathlib.Core.Path.{_≡_, sym, ap, _∙_}
 use Prim.Native.Nat.{_-_}
 use native.Mathlib.Omega.{arith}
+use lib.ListN.{take}
 use lib.Seq.{length-take-le}
-use Rattle.token.specs.Place.{Walkable}
+use Rattle.token.specs.Helpers.{Walkable}
 use Rattle.token.specs.declared.place.Place.{Place}
-use Rattle.token.proofs.Places.{place-cut, place-steppable, walk-cut, walk-line, walk-newline}
+use Rattle.token.proofs.Places.{Line, place-cut, place-steppable, walk-cut, walk-line, walk-newline}
 use borrow.Author.Needs.{needs}
 use Rattle.token.proofs.place.walk.Statement.{statement}
 use Rattle.token.proofs.place.walk.Tie as tie
@@ -19,27 +20,23 @@ abbrev μ-loop : tie.MeasureT-loop
 slice-aggregate-s : tie.Need-slice-aggregate-s Inv-loop μ-loop
 slice-aggregate-s c = sym (length-take-le _ _ (c .before .before .pre .inside))
 
-loop-holds : tie.Need-loop-holds Inv-loop μ-loop
-loop-holds c = walk-cut _ _ _ (c .before .before .pre)
-
 returns : tie.Need-returns Inv-loop μ-loop
 returns c =
     let w = c .before .loop .inv in
-    let a = c .before .before .before .before in
-    let z : c .before .loop .place .offset ≡ a .args .to = omega (arith, w .forward, c .if1 .taken) in
-    w .true-place ∙ rw z (place-cut (a .args .text .now) (a .args .to) (a .args .to) (omega arith))
+    let a = c .before .before .before .before .args in
+    let z : c .before .loop .place .offset ≡ a .to = omega (arith, w .forward, c .if1 .taken) in
+    w .true-place ∙ rw z (place-cut (a .text .now) (a .to) (a .to) (omega arith))
 
-find-requires : tie.Need-find-requires Inv-loop μ-loop
-find-requires c κs = search needs
-
-sub-column : tie.Need-sub-column Inv-loop μ-loop
-sub-column c = let l = walk-line _ _ _ (c .before .before .loop .inv) _ (c .find .ensures) in l .later
+-- the line from the place on ends where `find` says
+line : (d : tie.After-find Inv-loop μ-loop)
+    → let a = d .before .before .before .before .before .args in
+    Line (take (a .to) (a .text .now)) (d .before .before .loop .place) (d .find .result)
+line d = walk-line _ _ _ (d .before .before .loop .inv) _ (d .find .ensures)
 
 add-column : tie.Need-add-column Inv-loop μ-loop
 add-column c =
-    let w = c .before .before .before .loop .inv in
-    let l = walk-line _ _ _ w _ (c .before .find .ensures) in
-    record { fits = omega (arith, l .column, l .inside, w .short) }
+    let l = line (c .before) in
+    record { fits = omega (arith, l .column, l .inside, c .before .before .before .loop .inv .short) }
 
 returns-2 : tie.Need-returns-2 Inv-loop μ-loop
 returns-2 c =
@@ -47,22 +44,18 @@ returns-2 c =
     let a = b .before .before .before .before .before in
     let text = a .args .text .now in
     let to = a .args .to in
-    let l = walk-line _ _ _ (b .before .before .loop .inv) _ (b .find .ensures) in
-    let z : b .find .result ≡ to = omega (arith, l .inside, c .if2 .taken, length-take-le to text (a .pre .inside)) in
-    l .end ∙ rw z (place-cut text to to (omega arith))
+    let z : b .find .result ≡ to = omega (arith, line b .inside, c .if2 .taken, length-take-le to text (a .pre .inside)) in
+    line b .end ∙ rw z (place-cut text to to (omega arith))
 
 step-requires : tie.Need-step-requires Inv-loop μ-loop
 step-requires c κs =
     let b = c .before .before in
     let w = b .before .before .loop .inv in
-    let l = walk-line _ _ _ w _ (b .find .ensures) in
-    place-steppable _ _ _ (l .end) (omega (arith, c .if2 .left, w .inside)) (w .short)
+    place-steppable _ _ _ (line b .end) (omega (arith, c .if2 .left, w .inside)) (w .short)
 
 loop-less : tie.Need-loop-less Inv-loop μ-loop
 loop-less c =
-    let b = c .before .before .before in
-    let l = walk-line _ _ _ (b .before .before .loop .inv) _ (b .find .ensures) in
-    omega (arith, ap (λ (p : Place). p .offset) (c .step .ensures), l .later, c .before .if2 .left)
+    omega (arith, ap (λ (p : Place). p .offset) (c .step .ensures), line (c .before .before .before) .later, c .before .if2 .left)
 
 loop-again : tie.Need-loop-again Inv-loop μ-loop
 loop-again c =
@@ -70,18 +63,6 @@ loop-again c =
     rw (c .step .ensures) (walk-newline _ _ _ (b .before .before .loop .inv) _ (b .find .ensures) (c .before .if2 .left))
 
 pub walk-spec : {M : Type 1} → statement M
-walk-spec =
-    tie.close
-    (tie.spec
-    Inv-loop
-    μ-loop
-    slice-aggregate-s
-    loop-holds
-    returns
-    find-requires
-    sub-column
-    add-column
-    returns-2
-    step-requires
-    loop-less
-    loop-again)
+walk-spec = tie.close (tie.spec
+    Inv-loop μ-loop slice-aggregate-s (λ c. walk-cut _ _ _ (c .before .before .pre)) returns (λ c κs. search needs) (λ c. line c .later)
+    add-column returns-2 step-requires loop-less loop-again)

@@ -1,4 +1,4 @@
--- `magnitude_at` is `magnitude` of the number there. Assumes nothing.
+-- `magnitude_at` is `naturalOf` of the number there. Assumes nothing.
 use Rattle.token_file.proofs.Signs.{magnitude-below, cast-natural}
 use mir.Syntax.{w64}
 use mir.Val.{SFits}
@@ -8,12 +8,6 @@ use lib.IntN.{pos}
 use borrow.Author.Needs.{needs}
 use Rattle.token_file.proofs.records.magnitude_at.Statement.{statement}
 use Rattle.token_file.proofs.records.magnitude_at.Tie as tie
-
-mul-z : tie.Need-mul-z
-mul-z c = search needs
-
-shared-slice-copy-out-z : tie.Need-shared-slice-copy-out-z
-shared-slice-copy-out-z c = search needs
 
 returns : tie.Need-returns
 returns c =
@@ -35,5 +29,4 @@ returns-2 c =
     rw (toZ-ofZ w64 _ f) (cast-natural (getD (a .records .now) (a .at) (pos 0)) f (rw (toZ-ofZ w64 _ f) at (c .if1 .left)) .is)
 
 pub magnitude-at-spec : {M : Type 1} → statement M
-magnitude-at-spec =
-    tie.close (tie.spec mul-z shared-slice-copy-out-z returns cast-result returns-2)
+magnitude-at-spec = tie.close (tie.spec (λ c. search needs) (λ c. search needs) returns cast-result returns-2)

@@ -9,12 +9,6 @@ use borrow.Author.Needs.{needs}
 use Rattle.token_file.proofs.records.natural_at.Statement.{statement}
 use Rattle.token_file.proofs.records.natural_at.Tie as tie
 
-mul-z : tie.Need-mul-z
-mul-z c = search needs
-
-shared-slice-copy-out-z : tie.Need-shared-slice-copy-out-z
-shared-slice-copy-out-z c = search needs
-
 returns : tie.Need-returns
 returns c =
     let a = c .before .args in
@@ -22,4 +16,4 @@ returns c =
     rw (toZ-ofZ w64 _ f) (natural-is (getD (a .records .now) (a .at) (pos 0)))
 
 pub natural-at-spec : {M : Type 1} → statement M
-natural-at-spec = tie.close (tie.spec mul-z shared-slice-copy-out-z returns)
+natural-at-spec = tie.close (tie.spec (λ c. search needs) (λ c. search needs) returns)

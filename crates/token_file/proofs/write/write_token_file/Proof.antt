@@ -1,80 +1,76 @@
 -- `write_token_file` answers as `writeAnswer` says and leaves the buffer that it says: a law for each answer. Assumes nothing.
-use mathlib.Core.Path.{sym, _∙_}
+use borrow.Author.Needs.{needs}
+use mathlib.Core.Bool.{true, false}
+use mathlib.Core.Path.{_≡_, sym, _∙_}
 use native.Mathlib.Omega.{arith}
 use borrow.Author.Tests.{not-true, not-false}
-use Rattle.token_file.proofs.Writing.{narrow1, width1, write-bad, in-slice, write-long, write-no-room, write-all}
+use Rattle.token_file.specs.Rules.{rowsOf, largestColumn, someAbove}
+use Rattle.token_file.specs.Calls.{recordsOk}
+use Rattle.token_file.proofs.RulesPlain.{records-plain}
+use Rattle.token_file.proofs.Writing.{narrow1, width1, write-bad, write-long, write-no-room, write-all}
 use Rattle.token_file.proofs.write.write_token_file.Statement.{statement}
 use Rattle.token_file.proofs.write.write_token_file.Tie as tie
 
-records-ok-requires : tie.Need-records-ok-requires
-records-ok-requires c κs = tt
+-- ---- the stages
+
+-- the records keep the rules
+ruled : (d : tie.Else1) → let a = d .before .before .before .args in recordsOk (a .records .now) (a .count) ≡ true
+ruled d = sym (d .before .records-ok .ensures) ∙ not-false _ (d .if1 .left)
+
+-- and no column is too long
+short : (d : tie.Else2)
+    → let a = d .before .before .before .before .before .args in
+    someAbove largestColumn (rowsOf (a .count) (a .records .now)) ≡ false
+short d = sym (d .before .some-above .ensures) ∙ d .if2 .left
+
+-- ---- the needs
 
 returns : tie.Need-returns
-returns c =
-    let a = c .before .before .before .args in
-    write-bad (a .records .now) (a .count) (a .out .now) (sym (c .before .records-ok .ensures) ∙ not-true _ (c .if1 .taken))
-
-some-above-requires : tie.Need-some-above-requires
-some-above-requires c κs =
-    let a = c .before .before .before .args in
-    in-slice (a .records .now) (a .count) (a .out .now) (sym (c .before .records-ok .ensures) ∙ not-false _ (c .if1 .left))
+returns c = write-bad (sym (c .before .records-ok .ensures) ∙ not-true _ (c .if1 .taken))
 
 returns-2 : tie.Need-returns-2
-returns-2 c =
-    let a = c .before .before .before .before .before .args in
-    write-long (a .records .now) (a .count) (a .out .now) (sym (c .before .before .before .records-ok .ensures) ∙ not-false _ (c .before .before .if1 .left)) (sym (c .before .some-above .ensures) ∙ c .if2 .taken)
-
-version1-requires : tie.Need-version1-requires
-version1-requires c κs = tt
+returns-2 c = write-long (ruled (c .before .before)) (sym (c .before .some-above .ensures) ∙ c .if2 .taken)
 
 file-width-requires : tie.Need-file-width-requires
 file-width-requires c κs =
-    let s = c .before .before .before .before .before .before in
-    let a = s .args in
-    let i = in-slice (a .records .now) (a .count) (a .out .now) (sym (c .before .before .before .before .records-ok .ensures) ∙ not-false _ (c .before .before .before .if1 .left)) in
-    (narrow1 (c .version1 .result) (c .version1 .ensures), omega (arith, width1 (c .version1 .result) (a .count) (c .version1 .ensures), s .good))
+    let entry = c .before .before .before .before .before .before in
+    let slice = records-plain _ _ (ruled (c .before .before .before)) .slice in
+    (narrow1 (c .version1 .ensures), omega (arith, width1 (entry .args .count) (c .version1 .ensures), entry .good))
 
 returns-3 : tie.Need-returns-3
 returns-3 c =
-    let a = c .before .before .before .before .before .before .before .before .args in
-    let v = c .before .before .version1 in
-    write-no-room (a .records .now) (a .count) (a .out .now) (sym (c .before .before .before .before .before .before .records-ok .ensures) ∙ not-false _ (c .before .before .before .before .before .if1 .left)) (sym (c .before .before .before .before .some-above .ensures) ∙ c .before .before .before .if2 .left)
-    (v .result) (v .ensures) (c .before .file-width .result) (c .before .file-width .ensures) (c .if3 .taken)
+    let checked = c .before .before .before in
+    write-no-room (ruled (checked .before .before)) (short checked) (c .before .before .version1 .ensures) (c .before .file-width .ensures)
+    (c .if3 .taken)
 
 put-header-requires : tie.Need-put-header-requires
 put-header-requires c κs =
-    let v = c .before .before .before .version1 in
-    omega (arith, width1 (v .result) (c .before .before .before .before .before .before .before .before .before .args .count) (v .ensures), c .before .before .file-width .ensures, c .before .if3 .left)
+    let room = c .before in
+    let version = room .before .before in
+    let entry = version .before .before .before .before .before .before in
+    omega (arith, width1 (entry .args .count) (version .version1 .ensures), room .before .file-width .ensures, room .if3 .left)
 
 put-rows-requires : tie.Need-put-rows-requires
 put-rows-requires c κs =
-    let a = c .before .before .before .before .before .before .before .before .before .before .before .before .before .args in
-    let v = c .before .before .before .before .before .before .before .version1 in
-    let i = in-slice (a .records .now) (a .count) (a .out .now) (sym (c .before .before .before .before .before .before .before .before .before .before .before .records-ok .ensures) ∙ not-false _ (c .before .before .before .before .before .before .before .before .before .before .if1 .left)) in
-    (narrow1 (v .result) (v .ensures), omega (arith, c .before .before .before .put-header .kept .0, c .before .before .before .before .before .before .file-width .ensures, c .before .before .before .before .before .if3 .left), i)
-
-same-length : tie.Need-same-length
-same-length c = omega (arith, c .before .before .put-rows .kept .0, c .before .before .before .before .before .before .put-header .kept .0)
+    let header = c .before .before .before in
+    let room = header .before .before in
+    let version = room .before .before in (
+      narrow1 (version .version1 .ensures),
+      omega (arith, header .put-header .kept .0, room .before .file-width .ensures, room .if3 .left),
+      records-plain _ _ (ruled (version .before .before .before)) .slice,
+    )
 
 returns-4 : tie.Need-returns-4
 returns-4 c =
-    let a = c .before .before .before .before .before .before .before .before .before .before .before .before .before .before .before .before .args in
-    let v = c .before .before .before .before .before .before .before .before .before .before .version1 in
-    write-all (a .records .now) (a .count) (a .out .now) (sym (c .before .before .before .before .before .before .before .before .before .before .before .before .before .before .records-ok .ensures) ∙ not-false _ (c .before .before .before .before .before .before .before .before .before .before .before .before .before .if1 .left)) (sym (c .before .before .before .before .before .before .before .before .before .before .before .before .some-above .ensures) ∙ c .before .before .before .before .before .before .before .before .before .before .before .if2 .left)
-    (v .result) (v .ensures) (c .before .before .before .before .before .before .before .before .before .file-width .result) (c .before .before .before .before .before .before .before .before .before .file-width .ensures) (c .before .before .before .before .before .before .before .before .if3 .left) (c .before .before .before .before .before .before .put-header .ensures) (c .before .before .put-rows .ensures)
+    let rows = c .before .before in
+    let header = rows .before .before .before .before in
+    let room = header .before .before in
+    let version = room .before .before in
+    let checked = version .before in
+    write-all (ruled (checked .before .before)) (short checked) (version .version1 .ensures) (room .before .file-width .ensures)
+    (room .if3 .left) (header .put-header .ensures) (rows .put-rows .ensures)
 
 pub write-token-file-spec : {M : Type 1} → statement M
-write-token-file-spec =
-    tie.close
-    (tie.spec
-    records-ok-requires
-    returns
-    some-above-requires
-    returns-2
-    version1-requires
-    file-width-requires
-    returns-3
-    put-header-requires
-    put-rows-requires
-    same-length
-    returns-4)
+write-token-file-spec = tie.close (tie.spec
+    (λ c κs. tt) returns (λ c κs. records-plain _ _ (ruled c) .slice) returns-2 (λ c κs. tt) file-width-requires returns-3
+    put-header-requires put-rows-requires (λ c. search needs) returns-4)

@@ -1,17 +1,11 @@
 -- `indent_size` is `indentSize`: all of the indent, or none. Assumes nothing.
-use Rattle.triple_strings.proofs.LineScans.{indent-here, indent-none}
+use Rattle.triple_strings.specs.UndentBytes.{indentSize}
 use borrow.Author.Needs.{needs}
 use Rattle.triple_strings.proofs.lines.indent_size.Statement.{statement}
 use Rattle.triple_strings.proofs.lines.indent_size.Tie as tie
 
-starts-with-requires : tie.Need-starts-with-requires
-starts-with-requires c κs = search needs
-
-returns : tie.Need-returns
-returns c = search indent-here
-
-returns-2 : tie.Need-returns-2
-returns-2 c = search indent-none
-
 pub indent-size-spec : {M : Type 1} → statement M
-indent-size-spec = tie.close (tie.spec starts-with-requires returns returns-2)
+unfolding indentSize
+indent-size-spec = tie.close (tie.spec
+    (λ c κs. search needs) (λ c. rw (← c .before .starts-with .ensures, c .if1 .taken))
+    (λ c. rw (← c .before .starts-with .ensures, c .if1 .left)))

@@ -12,49 +12,8 @@ Inv-loop t i₀ i = Blanking t i
 abbrev μ-loop : tie.MeasureT-loop
 μ-loop t i₀ i = length t - i
 
-loop-holds : tie.Need-loop-holds Inv-loop μ-loop
-loop-holds c = search blanking-first
-
-sub-white-size : tie.Need-sub-white-size Inv-loop μ-loop
-sub-white-size c = search needs
-
-part-white-size-start : tie.Need-part-white-size-start Inv-loop μ-loop
-part-white-size-start c = search needs
-
-part-white-size-end : tie.Need-part-white-size-end Inv-loop μ-loop
-part-white-size-end c = search needs
-
-white-size-requires : tie.Need-white-size-requires Inv-loop μ-loop
-white-size-requires c κs = search needs
-
-returns : tie.Need-returns Inv-loop μ-loop
-returns c = search blanking-stop
-
-add-i : tie.Need-add-i Inv-loop μ-loop
-add-i c = search blanking-fits
-
-loop-less : tie.Need-loop-less Inv-loop μ-loop
-loop-less c = search blanking-less
-
-loop-again : tie.Need-loop-again Inv-loop μ-loop
-loop-again c = search blanking-on
-
-returns-2 : tie.Need-returns-2 Inv-loop μ-loop
-returns-2 c = search blanking-end
-
 pub is-blank-spec : {M : Type 1} → statement M
-is-blank-spec =
-    tie.close
-    (tie.spec
-    Inv-loop
-    μ-loop
-    loop-holds
-    sub-white-size
-    part-white-size-start
-    part-white-size-end
-    white-size-requires
-    returns
-    add-i
-    loop-less
-    loop-again
-    returns-2)
+is-blank-spec = tie.close (tie.spec
+    Inv-loop μ-loop (λ c. search blanking-first) (λ c. search needs) (λ c. search needs) (λ c. search needs) (λ c κs. search needs)
+    (λ c. search blanking-stop) (λ c. search blanking-fits) (λ c. search blanking-less) (λ c. search blanking-on)
+    (λ c. search blanking-end))

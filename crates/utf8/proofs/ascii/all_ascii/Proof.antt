@@ -5,7 +5,7 @@ use Prim.Native.Nat.{_-_}
 use lib.ListN.{length, drop}
 use Rattle.base.specs.Blocks.{allPass}
 use Rattle.base.proofs.Blocks.{all-turn, all-end}
-use Rattle.utf8.specs.Ascii.{isAscii}
+use Rattle.utf8.specs.Helpers.{isAscii}
 use borrow.Author.Needs.{needs}
 use Rattle.utf8.proofs.ascii.all_ascii.Statement.{statement}
 use Rattle.utf8.proofs.ascii.all_ascii.Tie as tie
@@ -16,25 +16,7 @@ Inv-loop s all₀ i₀ all i = (all && allPass isAscii (drop i s)) ≡ allPass i
 abbrev μ-loop : tie.MeasureT-loop
 μ-loop s all₀ i₀ all i = length s - i
 
-loop-holds : tie.Need-loop-holds Inv-loop μ-loop
-loop-holds c = refl
-
-shared-slice-read-all : tie.Need-shared-slice-read-all Inv-loop μ-loop
-shared-slice-read-all c = search needs
-
-add-i : tie.Need-add-i Inv-loop μ-loop
-add-i c = search needs
-
-loop-less : tie.Need-loop-less Inv-loop μ-loop
-loop-less c = search needs
-
-loop-again : tie.Need-loop-again Inv-loop μ-loop
-loop-again c = let l = c .before .before .loop in all-turn isAscii _ (l .all) (l .i) (l .inv) (c .before .loop-test .taken)
-
-returns : tie.Need-returns Inv-loop μ-loop
-returns c = search all-end
-
 pub all-ascii-spec : {M : Type 1} → statement M
-all-ascii-spec =
-    tie.close
-    (tie.spec Inv-loop μ-loop loop-holds shared-slice-read-all add-i loop-less loop-again returns)
+all-ascii-spec = tie.close (tie.spec
+    Inv-loop μ-loop (λ c. refl) (λ c. search needs) (λ c. search needs) (λ c. search needs)
+    (λ c. let l = c .before .before .loop in all-turn isAscii _ (l .all) (l .i) (l .inv) (c .before .loop-test .taken)) (λ c. search all-end))

@@ -4,9 +4,6 @@ use Rattle.utf8.specs.Check.{isTail}
 use Rattle.utf8.proofs.character.is_tail.Statement.{statement}
 use Rattle.utf8.proofs.character.is_tail.Tie as tie
 
-returns : tie.Need-returns
-unfolding isTail
-returns c = refl
-
 pub is-tail-spec : {M : Type 1} → statement M
-is-tail-spec = tie.close (tie.spec returns)
+unfolding isTail
+is-tail-spec = tie.close (tie.spec (λ c. refl))

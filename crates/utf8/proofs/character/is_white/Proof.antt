@@ -3,8 +3,5 @@ use Rattle.utf8.proofs.Codes.{white-law}
 use Rattle.utf8.proofs.character.is_white.Statement.{statement}
 use Rattle.utf8.proofs.character.is_white.Tie as tie
 
-returns : tie.Need-returns
-returns c = white-law _
-
 pub is-white-spec : {M : Type 1} → statement M
-is-white-spec = tie.close (tie.spec returns)
+is-white-spec = tie.close (tie.spec (λ c. white-law _))

@@ -13,41 +13,7 @@ Inv-loop text i₀ i = Onward text 0 i
 abbrev μ-loop : tie.MeasureT-loop
 μ-loop text i₀ i = length text - i
 
-loop-holds : tie.Need-loop-holds Inv-loop μ-loop
-loop-holds c = onward-first _ _ zero-le
-
-past-short-requires : tie.Need-past-short-requires Inv-loop μ-loop
-past-short-requires c κs = search needs
-
-stretch-end-requires : tie.Need-stretch-end-requires Inv-loop μ-loop
-stretch-end-requires c κs = search needs
-
-past-chars-requires : tie.Need-past-chars-requires Inv-loop μ-loop
-past-chars-requires c κs = search needs
-
-returns : tie.Need-returns Inv-loop μ-loop
-returns c = search scan-ill
-
-loop-less : tie.Need-loop-less Inv-loop μ-loop
-loop-less c = search scan-less
-
-loop-again : tie.Need-loop-again Inv-loop μ-loop
-loop-again c = search scan-on
-
-returns-2 : tie.Need-returns-2 Inv-loop μ-loop
-returns-2 c = search scan-end
-
 pub check-spec : {M : Type 1} → statement M
-check-spec =
-    tie.close
-    (tie.spec
-    Inv-loop
-    μ-loop
-    loop-holds
-    past-short-requires
-    stretch-end-requires
-    past-chars-requires
-    returns
-    loop-less
-    loop-again
-    returns-2)
+check-spec = tie.close (tie.spec
+    Inv-loop μ-loop (λ c. onward-first _ _ zero-le) (λ c κs. search needs) (λ c κs. search needs) (λ c κs. search needs)
+    (λ c. search scan-ill) (λ c. search scan-less) (λ c. search scan-on) (λ c. search scan-end))

@@ -9,20 +9,11 @@ use Rattle.go_duration.proofs.fraction.Fraction.nanos.Tie as tie
 nanos-of-requires : tie.Need-nanos-of-requires
 nanos-of-requires c κs =
     let s = c .before .args .self in
-    let r = c .before .pre .0 in
-    (proper-read (r .text) (s .f) (s .kept) (s .count) (s .over) (acc-is s _ (r .same)) (c .if1 .taken), (rw (r .same) (scaled (readDigits (r .text) noDigits)), c .before .pre .1))
-
-returns : tie.Need-returns
-returns c =
-    let a = c .before .before .args in
-    let s = a .self in
-    c .nanos-of .ensures ∙ frac-some (s .f) (s .kept) (s .count) (s .over) (a .unit) (c .before .if1 .taken)
-
-returns-2 : tie.Need-returns-2
-returns-2 c =
-    let a = c .before .args in
-    let s = a .self in
-    frac-none (s .f) (s .kept) (s .count) (s .over) (a .unit) (c .if1 .left)
+    let r = c .before .pre .0 in (
+      proper-read (r .text) (s .f) (s .kept) (s .count) (s .over) (acc-is s _ (r .same)) (c .if1 .taken),
+      (rw (r .same) (scaled (readDigits (r .text) noDigits)), c .before .pre .1),
+    )
 
 pub nanos-spec : {M : Type 1} → statement M
-nanos-spec = tie.close (tie.spec nanos-of-requires returns returns-2)
+nanos-spec = tie.close (tie.spec
+    nanos-of-requires (λ c. c .nanos-of .ensures ∙ frac-some _ _ _ _ _ (c .before .if1 .taken)) (λ c. search frac-none))

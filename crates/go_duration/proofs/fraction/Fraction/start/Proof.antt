@@ -5,9 +5,6 @@ use Rattle.go_duration.specs.Fraction.{scaleOf}
 use Rattle.go_duration.proofs.fraction.Fraction.start.Statement.{statement}
 use Rattle.go_duration.proofs.fraction.Fraction.start.Tie as tie
 
-returns : tie.Need-returns
-unfolding ofBits scaleOf
-returns c = refl
-
 pub start-spec : {M : Type 1} → statement M
-start-spec = tie.close (tie.spec returns)
+unfolding ofBits scaleOf
+start-spec = tie.close (tie.spec (λ c. refl))

@@ -4,9 +4,6 @@ use mathlib.Core.Path.{refl}
 use Rattle.token_file.proofs.layout.Layout.version1.Statement.{statement}
 use Rattle.token_file.proofs.layout.Layout.version1.Tie as tie
 
-returns : tie.Need-returns
-unfolding version1
-returns c = refl
-
 pub version1-spec : {M : Type 1} → statement M
-version1-spec = tie.close (tie.spec returns)
+unfolding version1
+version1-spec = tie.close (tie.spec (λ c. refl))

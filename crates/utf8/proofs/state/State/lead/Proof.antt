@@ -8,20 +8,8 @@ use borrow.Author.Needs.{needs}
 use Rattle.utf8.proofs.state.State.lead.Statement.{statement}
 use Rattle.utf8.proofs.state.State.lead.Tie as tie
 
-start-requires : tie.Need-start-requires
-start-requires c κs = search needs
-
-returns : tie.Need-returns
-returns c = c .start .ensures ∙ lead-ascii _ (c .before .if1 .taken)
-
-is-first-requires : tie.Need-is-first-requires
-is-first-requires c κs = search needs
-
 returns-2 : tie.Need-returns-2
 returns-2 c = lead-ill _ (search needs) (c .before .before .if1 .left) (sym (c .before .is-first .ensures) ∙ not-true _ (c .if2 .taken))
-
-length-of-requires : tie.Need-length-of-requires
-length-of-requires c κs = search (first-low, first-high)
 
 sub-need : tie.Need-sub-need
 sub-need c = omega (arith, c .length-of .ensures, length-low (c .before .before .before .before .args .a))
@@ -29,26 +17,11 @@ sub-need c = omega (arith, c .length-of .ensures, length-low (c .before .before 
 cast-need : tie.Need-cast-need
 cast-need c = omega (arith, c .length-of .ensures, length-high (c .before .before .before .before .args .a))
 
-choose-requires : tie.Need-choose-requires
-choose-requires c κs = search needs
-
-choose-requires-2 : tie.Need-choose-requires-2
-choose-requires-2 c κs = search needs
-
 returns-3 : tie.Need-returns-3
-returns-3 c = rw (c .before .choose .ensures, c .choose2 .ensures, c .before .before .length-of .ensures) (lead-some _ (search (first-low)) (search (first-high)))
+returns-3 c =
+    rw (c .before .choose .ensures, c .choose2 .ensures, c .before .before .length-of .ensures) (lead-some _ (search (first-low)) (search (first-high)))
 
 pub lead-spec : {M : Type 1} → statement M
-lead-spec =
-    tie.close
-    (tie.spec
-    start-requires
-    returns
-    is-first-requires
-    returns-2
-    length-of-requires
-    sub-need
-    cast-need
-    choose-requires
-    choose-requires-2
-    returns-3)
+lead-spec = tie.close (tie.spec
+    (λ c κs. search needs) (λ c. c .start .ensures ∙ lead-ascii _ (c .before .if1 .taken)) (λ c κs. search needs) returns-2
+    (λ c κs. search (first-low, first-high)) sub-need cast-need (λ c κs. search needs) (λ c κs. search needs) returns-3)

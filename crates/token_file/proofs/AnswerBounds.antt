@@ -1,4 +1,4 @@
--- What a caller needs of an accepted answer: its value lies within the buffer. By cases on the answer. Assumes nothing.
+-- For the calls of crate `pxf`: the value of an accepted answer lies within the buffer. By cases on the answer. Assumes nothing.
 use mathlib.Core.Path.{_≡_}
 use mathlib.Core.List.{List}
 use Prim.Native.Nat.{ℕ, _*_, _≤_}

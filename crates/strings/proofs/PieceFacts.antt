@@ -1,6 +1,5 @@
--- What every piece has: it takes at least one byte and no more than there are, and gives fewer bytes than it takes or one that stands for
--- itself; a bad escape's letter stands after the backslash, and an ASCII byte before its end, where it is no unknown escape. By cases on the
--- tests. Assumes nothing.
+-- Each piece takes at least one byte and no more than there are, and gives fewer than it takes, or one that stands for itself; a bad escape's
+-- letter stands second, and its last byte is ASCII but for unknown ones. For the laws of steps. By cases on the tests. Assumes nothing.
 use mathlib.Core.Path.{_≡_, refl, sym}
 use mathlib.Core.Bool.{Bool, true, false, _&&_}
 use mathlib.Core.List.{List, [], _∷_}
@@ -13,7 +12,8 @@ use lib.Seq.{getD-drop}
 use Rattle.base.specs.Choice.{pick}
 use Rattle.base.specs.Bytes.{byte, within}
 use Rattle.base.proofs.Tests.{and-right, in-text, over, pick-case, true-false, within-high}
-use Rattle.utf8.specs.Character.{isScalar, encodeOf}
+use Rattle.utf8.specs.Character.{isScalar}
+use Rattle.utf8.proofs.RoundTrip.{encode-length}
 use Rattle.token.specs.Reason as reasons
 use Rattle.strings.specs.Piece.{hexOf, octOf, simpleOf, hexPiece, octPiece, hexCount, hexValue, codePiece, escapePiece, pieceOf}
 use Rattle.strings.specs.declared.piece.Piece.{Piece}
@@ -25,9 +25,6 @@ pub record Taken (n used m : ℕ) : Type 0 where
   pub left : used ≤ m
   pub less : n ≤ used
   pub four : n ≤ 4
-
-taken : (n used m : ℕ) → 1 ≤ used → used ≤ m → n ≤ used → n ≤ 4 → Taken n used m
-taken n used m a b c d = record { some = a; left = b; less = c; four = d }
 
 -- n bytes, the first being a, out of the first `used` of l: as many as these only where it is one that stands for itself
 pub record Given (l : List ℕ) (n a used : ℕ) : Type 0 where
@@ -54,17 +51,13 @@ pub record Front (l : List ℕ) : Type 0 where
   pub some : 1 ≤ length l
   pub ascii : byte l 0 < 0x80
 
-abbrev pub Fine : List ℕ → Piece → Type 0
-Fine l (Bytes n a b c d used) = Given l n a used
-Fine l (Bad reason letter used) = Refused l reason letter used
-Fine l Close = Front l
-Fine l Newline = Front l
-Fine l Cut = Front l
-Fine l Open = length l ≡ 0
-
--- a choice of pieces
-fine-pick : (l : List ℕ) (b : Bool) (p q : Piece) → (b ≡ true → Fine l p) → (b ≡ false → Fine l q) → Fine l (pick b p q)
-fine-pick l b p q f g = pick-case (Fine l) b f g
+abbrev pub PieceFacts : List ℕ → Piece → Type 0
+PieceFacts l (Bytes n a b c d used) = Given l n a used
+PieceFacts l (Bad reason letter used) = Refused l reason letter used
+PieceFacts l Close = Front l
+PieceFacts l Newline = Front l
+PieceFacts l Cut = Front l
+PieceFacts l Open = length l ≡ 0
 
 -- a digit is an ASCII byte
 hex-ascii : (x : ℕ) → ltb (hexOf x) 16 ≡ true → x < 0x80
@@ -100,44 +93,30 @@ count-last (suc n) (x ∷ l) k e = go (ltb (hexOf x) 16) refl k e (count-last n 
     go true t (suc k) e ih = ih k (omega arith)
     go false t k e ih = absurd (omega arith)
 
-encode-le : (r : ℕ) → length (encodeOf r) ≤ 4
-unfolding encodeOf
-encode-le r =
-    let short : List ℕ → Type 0 = λ l. length l ≤ 4 in
-    pick-case short (ltb r 0x80) (λ _. lit≤ tt)
-    (λ _. pick-case short (ltb r 0x800) (λ _. lit≤ tt) (λ _. pick-case short (ltb r 0x10000) (λ _. lit≤ tt) (λ _. lit≤ tt)))
-
-hex-zero : ltb (hexOf 0) 16 ≡ false
-unfolding hexOf
-hex-zero = refl
-
-oct-zero : ltb (octOf 0) 8 ≡ false
-unfolding octOf
-oct-zero = refl
-
 module _ (t : List ℕ) (two : 1 < length t) where
   bad-2 : (reason letter : ℕ) → reasons.badX ≤ reason → reason ≤ reasons.unknownEscape → letter ≡ byte t 1
-      → ((reason ≡ reasons.unknownEscape → ⊥) → byte t 1 < 0x80) → Fine t (Bad reason letter 2)
-  bad-2 reason letter a b n e = refused t reason letter 2 (taken 2 2 (length t) (lit≤ tt) two (lit≤ tt) (lit≤ tt)) a b n e
+      → ((reason ≡ reasons.unknownEscape → ⊥) → byte t 1 < 0x80) → PieceFacts t (Bad reason letter 2)
+  bad-2 reason letter a b n e = refused t reason letter 2 (omega arith) a b n e
 
-  one-4 : (a : ℕ) → 3 < length t → Given t 1 a 4
-  one-4 a h = escaped t 1 a 4 (taken 1 4 (length t) (lit≤ tt) h (lit≤ tt) (lit≤ tt)) (lit≤ tt)
+  -- two digits after the letter
+  two-digits : (f : ℕ → ℕ) (base v reason letter : ℕ) → ltb (f 0) base ≡ false → reasons.badX ≤ reason → reason ≤ reasons.unknownEscape
+      → letter ≡ byte t 1 → byte t 1 < 0x80
+      → PieceFacts t (pick (ltb (f (byte t 2)) base && ltb (f (byte t 3)) base) (Bytes 1 v 0 0 0 4) (Bad reason letter 2))
+  two-digits f base v reason letter z lo hi nm h =
+      let a = ltb (f (byte t 2)) base in
+      let b = ltb (f (byte t 3)) base in
+      pick-case (PieceFacts t) (a && b)
+      (λ e. let l = in-text (λ (c : ℕ). ltb (f c) base) t 3 z (and-right a b e) in
+      escaped t 1 v 4 (omega arith) (lit≤ tt))
+      (λ _. bad-2 reason letter lo hi nm (λ _. h))
 
-  fine-hex : byte t 1 ≡ 0x78 → Fine t (hexPiece t)
-  unfolding hexPiece
-  fine-hex x =
-      let a = ltb (hexOf (byte t 2)) 16 in
-      let b = ltb (hexOf (byte t 3)) 16 in
-      fine-pick t (a && b) _ _ (λ e. one-4 _ (in-text (λ (c : ℕ). ltb (hexOf c) 16) t 3 hex-zero (and-right a b e)))
-      (λ _. bad-2 reasons.badX 0x78 (lit≤ tt) (lit≤ tt) (sym x) (λ _. omega arith))
+  fine-hex : byte t 1 ≡ 0x78 → PieceFacts t (hexPiece t)
+  unfolding hexPiece hexOf
+  fine-hex x = two-digits hexOf 16 _ reasons.badX 0x78 refl (lit≤ tt) (lit≤ tt) (sym x) (omega arith)
 
-  fine-oct : byte t 1 < 0x80 → Fine t (octPiece (byte t 1) t)
-  unfolding octPiece
-  fine-oct h =
-      let a = ltb (octOf (byte t 2)) 8 in
-      let b = ltb (octOf (byte t 3)) 8 in
-      fine-pick t (a && b) _ _ (λ e. one-4 _ (in-text (λ (c : ℕ). ltb (octOf c) 8) t 3 oct-zero (and-right a b e)))
-      (λ _. bad-2 reasons.badOctal (byte t 1) (lit≤ tt) (lit≤ tt) refl (λ _. h))
+  fine-oct : byte t 1 < 0x80 → PieceFacts t (octPiece (byte t 1) t)
+  unfolding octPiece octOf
+  fine-oct h = two-digits octOf 8 _ reasons.badOctal (byte t 1) refl (lit≤ tt) (lit≤ tt) refl h
 
   -- what stands before the end of the digits that are counted
   code-last : (n : ℕ) → byte t 1 < 0x80 → byte t (hexCount n (drop 2 t) + 2 - 1) < 0x80
@@ -150,48 +129,44 @@ module _ (t : List ℕ) (two : 1 < length t) where
           rw (j, ← getD-drop 2 t k 0) (count-last n (drop 2 t) k e)
 
   fine-code : (n reason letter : ℕ) → 3 ≤ n → reasons.badX ≤ reason → reason ≤ reasons.badCapitalU → letter ≡ byte t 1 → byte t 1 < 0x80
-      → Fine t (codePiece n reason letter (drop 2 t))
+      → PieceFacts t (codePiece n reason letter (drop 2 t))
   unfolding codePiece
   fine-code n reason letter h lo hi nm ascii =
       let l = drop 2 t in
-      let bad : n ≤ length l → Fine t (Bad reason letter (hexCount n l + 2)) =
-      λ b. refused t reason letter (hexCount n l + 2)
-      (taken 2 (hexCount n l + 2) (length t) (omega arith) (omega (arith, length-drop 2 t, count-le n l)) (omega arith) (lit≤ tt))
-      lo (omega arith) nm (λ _. code-last n ascii) in
-      fine-pick t (ltb (length l) n) _ _ (λ _. bad-2 reason letter lo (omega arith) nm (λ _. ascii))
+      let bad : n ≤ length l → PieceFacts t (Bad reason letter (hexCount n l + 2)) =
+      λ b. refused t reason letter (hexCount n l + 2) (omega (arith, length-drop 2 t, count-le n l)) lo (omega arith) nm (λ _. code-last n ascii) in
+      pick-case (PieceFacts t) (ltb (length l) n) (λ _. bad-2 reason letter lo (omega arith) nm (λ _. ascii))
       (λ e. let b : n ≤ length l = ltb-false (length l) n e in
-      fine-pick t (ltb (hexCount n l) n) _ _ (λ _. bad b)
-      (λ f. fine-pick t (isScalar (hexValue n 0 l)) _ _
-      (λ _. escaped t _ _ (n + 2)
-      (taken _ (n + 2) (length t) (omega arith) (omega (arith, length-drop 2 t)) (omega (arith, encode-le (hexValue n 0 l))) (encode-le (hexValue n 0 l)))
-      (omega (arith, encode-le (hexValue n 0 l))))
+      pick-case (PieceFacts t) (ltb (hexCount n l) n) (λ _. bad b)
+      (λ f. pick-case (PieceFacts t) (isScalar (hexValue n 0 l))
+      (λ _. let few = encode-length (hexValue n 0 l) .1 in escaped t _ _ (n + 2) (omega (arith, length-drop 2 t)) (omega arith))
       (λ _. let q : hexCount n l ≡ n = omega (arith, count-le n l, ltb-false (hexCount n l) n f) in rw q at (bad b))))
 
-  fine-escape : Fine t (escapePiece t)
+  fine-escape : PieceFacts t (escapePiece t)
   unfolding escapePiece
   fine-escape =
       let e : ℕ = byte t 1 in
-      fine-pick t (eqb (simpleOf e) 0) _ _
-      (λ _. fine-pick t (eqb e 0x78) _ _ (λ x. fine-hex (eqb-true e 0x78 x))
-      (λ _. fine-pick t (eqb e 0x75) _ _
+      pick-case (PieceFacts t) (eqb (simpleOf e) 0)
+      (λ _. pick-case (PieceFacts t) (eqb e 0x78) (λ x. fine-hex (eqb-true e 0x78 x))
+      (λ _. pick-case (PieceFacts t) (eqb e 0x75)
       (λ x. let q = eqb-true e 0x75 x in fine-code 4 reasons.badU 0x75 (lit≤ tt) (lit≤ tt) (lit≤ tt) (sym q) (omega arith))
-      (λ _. fine-pick t (eqb e 0x55) _ _
+      (λ _. pick-case (PieceFacts t) (eqb e 0x55)
       (λ x. let q = eqb-true e 0x55 x in fine-code 8 reasons.badCapitalU 0x55 (lit≤ tt) (lit≤ tt) (lit≤ tt) (sym q) (omega arith))
-      (λ _. fine-pick t (within 48 51 e) _ _ (λ x. let q = within-high 48 51 e x in fine-oct (omega arith))
+      (λ _. pick-case (PieceFacts t) (within 48 51 e) (λ x. let q = within-high 48 51 e x in fine-oct (omega arith))
       (λ _. bad-2 reasons.unknownEscape e (lit≤ tt) (lit≤ tt) refl (λ n. absurd (n refl)))))))
-      (λ _. escaped t 1 _ 2 (taken 1 2 (length t) (lit≤ tt) two (lit≤ tt) (lit≤ tt)) (lit≤ tt))
+      (λ _. escaped t 1 _ 2 (omega arith) (lit≤ tt))
 
 front : (c : ℕ) (l : List ℕ) (k : ℕ) → eqb c k ≡ true → k < 0x80 → Front (c ∷ l)
 front c l k e h = let q = eqb-true c k e in record { some = omega arith; ascii = omega arith }
 
-pub fine : (l : List ℕ) → Fine l (pieceOf l)
+pub piece-facts : (l : List ℕ) → PieceFacts l (pieceOf l)
 unfolding pieceOf
-fine [] = refl
-fine (c ∷ l) =
+piece-facts [] = refl
+piece-facts (c ∷ l) =
     let t = c ∷ l in
-    fine-pick t (eqb c 0x22) _ _ (λ e. front c l 0x22 e (omega arith))
-    (λ _. fine-pick t (eqb c 0x0A) _ _ (λ e. front c l 0x0A e (omega arith))
-    (λ _. fine-pick t (eqb c 0x5C) _ _
-    (λ s. fine-pick t (eqb (length l) 0) _ _ (λ _. front c l 0x5C s (omega arith))
+    pick-case (PieceFacts t) (eqb c 0x22) (λ e. front c l 0x22 e (omega arith))
+    (λ _. pick-case (PieceFacts t) (eqb c 0x0A) (λ e. front c l 0x0A e (omega arith))
+    (λ _. pick-case (PieceFacts t) (eqb c 0x5C)
+    (λ s. pick-case (PieceFacts t) (eqb (length l) 0) (λ _. front c l 0x5C s (omega arith))
     (λ e. let n : length l ≡ 0 → ⊥ = eqb-false (length l) 0 e in fine-escape t (omega arith)))
-    (λ _. record { bytes = taken 1 1 (length t) (lit≤ tt) (omega arith) (lit≤ tt) (lit≤ tt); own = λ _. (refl, refl) })))
+    (λ _. record { bytes = omega arith; own = λ _. (refl, refl) })))

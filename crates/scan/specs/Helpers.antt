@@ -1,0 +1,14 @@
+-- Helper definitions, for proofs and inner contracts alone: the reason of a bytes literal's report.
+use Prim.Native.Nat.{ℕ}
+use Rattle.token.specs.Reason as reasons
+use Rattle.scan.specs.declared.bytes.Stop.{Stop}
+use Rattle.scan.specs.declared.bytes.Stop.the-variants as stop
+
+-- Types that other files explain: `Stop` in Bytes.antt.
+
+-- the reason that the tolerant reader reports of a literal that stops so, or none
+unfoldable pub stopReason : Stop → ℕ
+stopReason (stop.Over n) = reasons.none
+stopReason (stop.Closed n) = reasons.none
+stopReason (stop.Newline n) = reasons.bytesEndedAtNewline
+stopReason (stop.Open n) = reasons.openBytes

@@ -16,9 +16,11 @@ most = 9223372036854775808
 -- ---- document 01: "f as the nearest f64 is multiplied by the unit divided by the scale, each step rounded once, the quotient first, and the
 -- result truncated; the scale is 1.0 multiplied k times by 10.0"
 
+-- 1.0
 abbrev pub one : Float
 one = fin false 1 (pos 0)
 
+-- 10.0
 abbrev pub ten : Float
 ten = fin false 5 (pos 1)
 
@@ -49,6 +51,7 @@ room f b = leb f 922337203685477580 && leb (more f b) most
 pub data Acc : Type 0 where
   acc : (f k n : ℕ) → Bool → Acc
 
+-- before the first digit
 abbrev pub noDigits : Acc
 noDigits = acc 0 0 0 false
 

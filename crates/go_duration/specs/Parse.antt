@@ -81,6 +81,7 @@ partOf s =
 
 -- ---- the parts, repeated
 
+-- the sum d with one part more, and then what f makes of the bytes of the part that are left: "Any product or sum above 2^63 is refused"
 abbrev pub addPart : Part → ℕ → (ℕ → ℕ → Total) → Total
 addPart part.Bad d f = total.Bad
 addPart (part.Value v used) d f = pick (ltb most (d + v)) total.Bad (f (used - 1) (d + v))
@@ -97,6 +98,7 @@ sumFrom zero d (x ∷ s) = addPart (partOf (x ∷ s)) d (λ k e. sumFrom k e s)
 abbrev pub signOf : Bool → ℕ → ℤ
 signOf neg d = pick neg (pos 0 -ℤ pos d) (pos d)
 
+-- the finished sum under its sign, where a signed 64-bit number holds it
 unfoldable pub withSign : Bool → Total → Parsed
 withSign neg total.Bad = parsed.Bad
 withSign neg (total.Sum d) = pick (neg || ltb d most) (parsed.Nanos (signOf neg d)) parsed.Bad

@@ -20,6 +20,7 @@ units =
     ∷ (ascii "h", 3600000000000)
     ∷ []
 
+-- the nanoseconds of a unit in a table, or 0 where it is not there
 abbrev pub unitIn : List (List ℕ × ℕ) → List ℕ → ℕ
 unitIn [] u = 0
 unitIn (r ∷ rs) u = pick (sameBytes u (r .0)) (r .1) (unitIn rs u)

@@ -8,6 +8,7 @@ use Rattle.go_duration.specs.Units.{units, unitOf, valueFrom, valueOf}
 
 -- ---- "A unit is its nanoseconds"
 
+-- a unit's bytes, and its nanoseconds
 pub record Unit : Type 0 where
   pub bytes : List ℕ
   pub nanos : ℕ
@@ -15,6 +16,7 @@ pub record Unit : Type 0 where
 abbrev unit : List ℕ → ℕ → Unit
 unit l n = record { bytes = l; nanos = n }
 
+-- document 01's table of units
 abbrev pub unitRows : List Unit
 unitRows =
     -- "1 for ns"
@@ -42,6 +44,7 @@ units-worked = refl
 
 -- ---- the number that digits write
 
+-- digits, and the number that they write
 pub record Number : Type 0 where
   pub digits : List ℕ
   pub value : ℕ
@@ -49,6 +52,7 @@ pub record Number : Type 0 where
 abbrev number : List ℕ → ℕ → Number
 number l n = record { digits = l; value = n }
 
+-- some of each length
 abbrev pub numberRows : List Number
 numberRows =
     -- "Missing digits of a whole number count as 0"

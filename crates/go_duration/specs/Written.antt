@@ -81,6 +81,7 @@ pub record SumOfParts (run : List ℕ) (z : ℤ) : Type 0 where
 unfoldable pub partNanos : WrittenPart → ℕ
 partNanos p = valueOf (p .whole) * unitOf (p .unit) + fractionNanos (p .fraction) (unitOf (p .unit))
 
+-- their sum
 abbrev pub totalOf : List WrittenPart → ℕ
 totalOf [] = 0
 totalOf (p ∷ ps) = partNanos p + totalOf ps

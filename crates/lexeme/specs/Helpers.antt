@@ -6,7 +6,7 @@ use Rattle.token.specs.Layout.{reportNumbers}
 use Rattle.lexeme.specs.Lexeme.{Note}
 use Rattle.lexeme.specs.Reports.{reportOf}
 
--- the numbers of its reports, in order
+-- the numbers of a token's reports, in order; the token starts at the offset a of the text
 unfoldable pub notesNumbers : List ℕ → ℕ → List Note → List ℤ
 notesNumbers text a [] = []
 notesNumbers text a (n ∷ ns) = reportNumbers (reportOf text a n) ++ notesNumbers text a ns

@@ -1,4 +1,4 @@
--- The reports of a token as rows of numbers: document 01, "A report is five signed 64-bit numbers: reason, detail, offset, line, column".
+-- The reports of a token, with their places: document 01, "A report is five signed 64-bit numbers: reason, detail, offset, line, column".
 use mathlib.Core.List.{List}
 use Prim.Native.Nat.{ℕ, _+_}
 use Rattle.token.specs.Place.{placeAt}

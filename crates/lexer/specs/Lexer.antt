@@ -86,6 +86,7 @@ stringBy C.Number m s = []
 stringBy C.Name m s = []
 stringBy C.Other m s = []
 
+-- the same of the token at the front of a text that starts with no blank; the Eof has none
 unfoldable pub stringOf : Mode → List ℕ → List ℕ
 stringOf m s = pick (eqb (length s) 0) [] (stringBy (classAt s) m s)
 
@@ -103,5 +104,6 @@ notesBy C.Number m limit s = []
 notesBy C.Name m limit s = []
 notesBy C.Other m limit s = []
 
+-- the same of the token at the front of a text that starts with no blank; the Eof has none
 unfoldable pub notesOf : Mode → ℕ → List ℕ → List Note
 notesOf m limit s = pick (eqb (length s) 0) [] (notesBy (classAt s) m limit s)

@@ -63,6 +63,7 @@ placed i start end x =
 abbrev pub tokenOf : List ℕ → Found → Token
 tokenOf text f = placed (f .start) (placeAt text (f .start)) (placeAt text (foundEnd f)) (f .lexeme)
 
+-- the token after an offset of the text: `next_token`
 unfoldable pub nextToken : Reading → ℕ → List ℕ → ℕ → Token
 nextToken m limit text at = tokenOf text (foundAt m limit text at)
 

@@ -5,9 +5,11 @@ use Prim.Native.Nat.{ℕ}
 use Rattle.base.specs.Characters.{ascii}
 use Rattle.listing_lines.specs.Listing.{printed}
 
+-- the text
 abbrev pub exampleText : List ℕ
 exampleText = ascii "a = 1.5s\n"
 
+-- its lines
 abbrev pub exampleLines : List ℕ
 exampleLines =
     ascii "0 1 1 1 4 0 0\n"

@@ -55,7 +55,7 @@ stepNotes reason letter at =
 abbrev pub prepend : List ℕ → List Note → Decoded → Decoded
 prepend bs ns d = record { bytes = bs ++ d .bytes; notes = ns ++ d .notes; stop = d .stop; ending = d .ending }
 
--- a literal of which nothing is left
+-- a literal that stops at p: nothing is left of it
 abbrev pub stopped : End → ℕ → Decoded
 stopped e p = record { bytes = []; notes = []; stop = p; ending = e }
 

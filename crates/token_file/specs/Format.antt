@@ -44,15 +44,18 @@ headerWidth = 9
 
 -- ---- from rows to bytes
 
+-- "per token kind and reason (8 bits each), start, end, line (32) and column (16), little-endian"
 unfoldable pub rowBytes : Layout → Row → List ℕ
 rowBytes y r =
     little (y .kind) (r .kind) ++ little (y .reason) (r .reason) ++ little (y .start) (r .start) ++ little (y .end) (r .end)
     ++ little (y .line) (r .line) ++ little (y .column) (r .column)
 
+-- the bytes of all rows, one after the other
 unfoldable pub rowsBytes : Layout → List Row → List ℕ
 rowsBytes y [] = []
 rowsBytes y (r ∷ rs) = rowBytes y r ++ rowsBytes y rs
 
+-- "mark `OFT`, 16-bit version 1, 32-bit count"
 unfoldable pub header : Layout → ℕ → List ℕ
 header y count = fileMark ++ little 2 (y .version) ++ little 4 count
 

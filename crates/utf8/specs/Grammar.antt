@@ -12,6 +12,7 @@ pub record Range : Type 0 where
   pub lo : ℕ
   pub hi : ℕ
 
+-- the range of two octets
 abbrev pub range : ℕ → ℕ → Range
 range l h = record { lo = l; hi = h }
 

@@ -12,6 +12,7 @@ use Rattle.utf8.specs.declared.state.State.{State}
 -- Types of the code (src/state.rt). `State`: how many octets the character that has begun still wants, `need`, the first of them from `lo` to `hi`; 4
 -- where no character begins or goes on so.
 
+-- n octets more, the first of them from l to h
 abbrev pub wants : ℕ → ℕ → ℕ → State
 wants n l h = record { need = n; lo = l; hi = h }
 

@@ -8,14 +8,14 @@ use mir.Syntax.{w64}
 use mir.Val.{SFits}
 use mir.ValLaws.{toZ-ofZ}
 use borrow.Author.Needs.{needs}
+use Rattle.base.proofs.Storings.{Storing, storing-first, storing-to, storing-reached, storing-end}
 use Rattle.listing_lines.specs.Lines.{lineText}
 use Rattle.listing_lines.proofs.Lines.{numberAt, number-length, line-at, line-done}
-use Rattle.listing_lines.proofs.Pieces.{Writing, writing-start, writing-turn, writing-end}
 use Rattle.listing_lines.proofs.put_line.Statement.{statement}
 use Rattle.listing_lines.proofs.put_line.Tie as tie
 
 abbrev Inv-loop : tie.InvT-loop
-Inv-loop row out₀ at end₀ k₀ out end k = (k ≤ length row) × Writing (lineText row) out₀ out at end (lineText (drop k row))
+Inv-loop row out₀ at end₀ k₀ out end k = (k ≤ length row) × Storing (lineText row) out₀ at (lineText (drop k row)) out end
 
 abbrev μ-loop : tie.MeasureT-loop
 μ-loop row out₀ at end₀ k₀ out end k = length row - k
@@ -41,10 +41,16 @@ loop-again c =
     let f : SFits w64 (getD row k (pos 0)) = search needs in
     let w = rw (toZ-ofZ w64 _ f, q .before .separator-before .ensures) at (q .write-number .ensures) in
     let e = line-at row k (i .loop-test .taken) in
-    (omega arith, writing-turn (l .loop .inv .1) (numberAt row k) e (w .1) (omega (arith, w .0, number-length row k)))
+    (omega arith, storing-to (l .loop .inv .1) (numberAt row k) _ e (w .1) (omega (arith, w .0, number-length row k)))
+
+returns : tie.Need-returns Inv-loop μ-loop
+returns c =
+    let w = c .before .loop .inv .1 in
+    let e = line-done _ _ (c .loop-test .left) in
+    (storing-reached w e, storing-end w e)
 
 pub put-line-spec : {M : Type 1} → statement M
 put-line-spec = tie.close (tie.spec
-    Inv-loop μ-loop (λ c. (omega arith, writing-start _ _ _)) (λ c. search needs) (λ c. search needs) (λ c. search needs)
+    Inv-loop μ-loop (λ c. (omega arith, storing-first (omega arith))) (λ c. search needs) (λ c. search needs) (λ c. search needs)
     (λ c. search needs) (λ c κs. search needs) write-number-requires (λ c. search needs) loop-again (λ c. c .before .loop .inv .1 .same)
-    (λ c. writing-end (c .before .loop .inv .1) (line-done _ _ (c .loop-test .left))))
+    returns)

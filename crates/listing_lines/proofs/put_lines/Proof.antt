@@ -4,16 +4,16 @@ use Prim.Native.Nat.{_+_, _*_, _-_, _≤_}
 use native.Mathlib.Omega.{arith}
 use lib.ListN.{length, drop, length-append}
 use borrow.Author.Needs.{needs}
+use Rattle.base.proofs.Storings.{Storing, storing-first, storing-to, storing-end}
 use Rattle.token.specs.Layout.{recordWidth}
 use Rattle.listing_lines.specs.Lines.{lineText}
 use Rattle.listing_lines.specs.Rows.{lineAt, rowLines}
 use Rattle.listing_lines.proofs.Lines.{rowsFrom, rows-start, rows-at, rows-done}
-use Rattle.listing_lines.proofs.Pieces.{Writing, writing-start, writing-turn, writing-end}
 use Rattle.listing_lines.proofs.put_lines.Statement.{statement}
 use Rattle.listing_lines.proofs.put_lines.Tie as tie
 
 abbrev Inv-loop : tie.InvT-loop
-Inv-loop tokens count out₀ end₀ i₀ out end i = (i ≤ count) × Writing (rowLines count tokens) out₀ out 0 end (rowsFrom tokens count i)
+Inv-loop tokens count out₀ end₀ i₀ out end i = (i ≤ count) × Storing (rowLines count tokens) out₀ 0 (rowsFrom tokens count i) out end
 
 abbrev μ-loop : tie.MeasureT-loop
 μ-loop tokens count out₀ end₀ i₀ out end i = count - i
@@ -39,10 +39,10 @@ loop-again c =
     let i = l .loop .i in
     let w = rw (q .before .before .before .line-numbers .ensures) at (q .put-line .ensures) in
     let e = rows-at (a .tokens .now) (a .count) i (t .loop-test .taken) in
-    (omega arith, writing-turn (l .loop .inv .1) (lineText (lineAt (drop (i * recordWidth) (a .tokens .now)))) e (w .1) (w .0))
+    (omega arith, storing-to (l .loop .inv .1) (lineText (lineAt (drop (i * recordWidth) (a .tokens .now)))) _ e (w .1) (w .0))
 
 pub put-lines-spec : {M : Type 1} → statement M
 put-lines-spec = tie.close (tie.spec
-    Inv-loop μ-loop (λ c. (omega arith, rw rows-start (writing-start _ _ _))) (λ c. search needs) (λ c κs. search needs) (λ c. search needs)
+    Inv-loop μ-loop (λ c. (omega arith, rw rows-start (storing-first (omega arith)))) (λ c. search needs) (λ c κs. search needs) (λ c. search needs)
     put-line-requires (λ c. search needs) (λ c. search needs) loop-again (λ c. c .before .loop .inv .1 .same)
-    (λ c. writing-end (c .before .loop .inv .1) (rows-done _ _ _ (c .loop-test .left)) .1))
+    (λ c. storing-end (c .before .loop .inv .1) (rows-done _ _ _ (c .loop-test .left))))

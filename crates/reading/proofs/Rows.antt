@@ -19,7 +19,7 @@ use Rattle.lexer.specs.declared.next.Token.{Token}
 use Rattle.lexer.specs.declared.reading.Reading.{Reading}
 use Rattle.reading.proofs.NextToken.{stringAt, notesAt, reportsAt, numbersAt}
 use Rattle.reading.specs.Buffers.{recordOf, recordsOf, stringsOf, reportsOf, recordRows, reportRows, Laid, Lays}
-use Rattle.reading.specs.Passes.{Measured, Room, Stored}
+use Rattle.reading.specs.Passes.{Measured, Room, AllStored}
 use Rattle.reading.specs.declared.text.TextCounts.{TextCounts}
 
 -- ---- lengths and rows of lists
@@ -138,7 +138,7 @@ same-reports (r ∷ rs) (q ∷ qs) e =
 
 -- stores from the front on lay what they store, where there is room
 pub written-lays : {l : Laid} {T : List ℤ} {S : List ℕ} {R T′ : List ℤ} {S′ : List ℕ} {R′ : List ℤ} → Room l (length T) (length S) (length R)
-    → Stored l T S R T′ S′ R′ → Lays 0 l T S R T′ S′ R′
+    → AllStored l T S R T′ S′ R′ → Lays 0 l T S R T′ S′ R′
 written-lays {l} {T} {S} {R} h w =
     record {
       records = w .records ∙ overlaid (recordRows (l .records)) T (omega (arith, record-rows-length (l .records), h .for-tokens));

@@ -11,7 +11,7 @@ use Rattle.reading.specs.Buffers.{wholeLaid}
 use Rattle.reading.specs.Refusals.{judgeOf}
 use Rattle.reading.specs.Answers.{countsOf, readTextAnswer}
 use Rattle.reading.specs.Calls.{ReadsText}
-use Rattle.reading.specs.Passes.{Measured, Room, Stored}
+use Rattle.reading.specs.Passes.{Measured, Room, AllStored}
 use Rattle.reading.specs.declared.judge.Judged.the-variants.{Fit, Unfit}
 use Rattle.reading.specs.declared.refusal.Refusal.{Refusal}
 use Rattle.reading.specs.declared.text.TextCounts as counts
@@ -49,7 +49,7 @@ module _ {m : Reading} {limit : ℕ} {text : List ℕ} {T : List ℤ} {S : List 
     short {x} s = refused x (rw j (short-answer Refused (countsOf (wholeLaid m limit text)) s))
 
     pub done : {r : counts.TextCounts} → Measured (wholeLaid m limit text) r → Room (wholeLaid m limit text) (length T) (length S) (length R)
-        → {T′ : List ℤ} {S′ : List ℕ} {R′ : List ℤ} → Stored (wholeLaid m limit text) T S R T′ S′ R′
+        → {T′ : List ℤ} {S′ : List ℕ} {R′ : List ℤ} → AllStored (wholeLaid m limit text) T S R T′ S′ R′
         → ReadsText m limit text T S R (Counts (r .tokens) (r .strings) (r .reports)) T′ S′ R′
     unfolding readTextAnswer
     done {r} w h {T′} {S′} {R′} d =

@@ -26,7 +26,7 @@ use Rattle.lexer.specs.declared.next.Token.{Token}
 use Rattle.lexer.specs.declared.reading.Reading.{Reading}
 use Rattle.reading.specs.Tokens.{tokensFrom, tokens}
 use Rattle.reading.specs.Buffers.{recordOf, recordsOf, stringsOf, reportsOf, recordRows, reportRows, wholeLaid}
-use Rattle.reading.specs.Passes.{Measured, Room, Stored, TokenRoom, TokenPut}
+use Rattle.reading.specs.Passes.{Measured, Room, AllStored, TokenRoom, TokenPut}
 use Rattle.reading.proofs.NextToken.{stringAt, notesAt, numbersAt, Read, start-bounded, string-few, reads, end-offset}
 use Rattle.reading.proofs.From.{from-eof, from-more, from-head}
 use Rattle.reading.proofs.Rows.{records-length, records-more, strings-more, strings-length, reports-length, reports-more}
@@ -267,7 +267,7 @@ module _ {m : Reading} {limit : ℕ} {text : List ℕ} {T : List ℤ} {S : List 
           }
 
       pub passing-end : IsEof (t .kind)
-          → Measured (wholeLaid m limit text) (record { tokens = n + 1; strings = s; reports = k }) × Stored (wholeLaid m limit text) T S R T″ S″ R″
+          → Measured (wholeLaid m limit text) (record { tokens = n + 1; strings = s; reports = k }) × AllStored (wholeLaid m limit text) T S R T″ S″ R″
       unfolding recordsOf recordRows stringsOf reportsOf reportRows notesNumbers
       passing-end c =
           let q = eof-of m limit text (p .offset) (w .walkable .inside) t e c in

@@ -34,7 +34,7 @@ pub record Room (l : Laid) (nt ns nr : ℕ) : Type 0 where
   pub for-reports : length (l .reports) * reportWidth ≤ nr
 
 -- what the second pass stores, from each buffer's start
-pub record Stored (l : Laid) (T : List ℤ) (S : List ℕ) (R T′ : List ℤ) (S′ : List ℕ) (R′ : List ℤ) : Type 0 where
+pub record AllStored (l : Laid) (T : List ℤ) (S : List ℕ) (R T′ : List ℤ) (S′ : List ℕ) (R′ : List ℤ) : Type 0 where
   pub records : T′ ≡ sets T 0 (recordRows (l .records))
   pub strings : S′ ≡ sets S 0 (l .strings)
   pub reports : R′ ≡ sets R 0 (reportRows (l .reports))

@@ -7,7 +7,7 @@ ghost use Rattle.utf8.specs.Grammar.{Octets};
 ghost use Rattle.reading.specs.Answers.{readTextNumber};
 ghost use Rattle.reading.specs.Buffers.{wholeLaid};
 ghost use Rattle.reading.specs.Calls.{ReadsText};
-ghost use Rattle.reading.specs.Passes.{Measured, Room, Stored, mostReports, sufficeFor};
+ghost use Rattle.reading.specs.Passes.{Measured, Room, AllStored, mostReports, sufficeFor};
 use crate::judge::Judged;
 use crate::judge::judge;
 use crate::put::put_token;
@@ -92,7 +92,7 @@ fn write(
     reports: &mut [i64],
 ) -> TextCounts
     requires { ⌜ (length (now text) ≤ maxMessageSize) × Room (wholeLaid mode limit (now text)) (length (now tokens)) (length (now strings)) (length (now reports)) × Octets (now text) ⌝ }
-    ensures { λ r. ⌜ Measured (wholeLaid mode limit (now (text .entry))) r × Stored (wholeLaid mode limit (now (text .entry))) (now (tokens .entry)) (now (strings .entry)) (now (reports .entry)) (now (tokens .exit)) (now (strings .exit)) (now (reports .exit)) ⌝ }
+    ensures { λ r. ⌜ Measured (wholeLaid mode limit (now (text .entry))) r × AllStored (wholeLaid mode limit (now (text .entry))) (now (tokens .entry)) (now (strings .entry)) (now (reports .entry)) (now (tokens .exit)) (now (strings .exit)) (now (reports .exit)) ⌝ }
 {
     let mut place = Place::first();
     let mut n = 0;

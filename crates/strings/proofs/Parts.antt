@@ -50,17 +50,17 @@ unfolding simpleAt
 simple-some x y e b v p q = rw (eq-eqb x 0x5C e, ← p) q
 
 -- the letters of the list and what they stand for are ASCII
-abbrev ascii : List (ℕ × ℕ) → Bool
-ascii [] = true
-ascii (p ∷ ps) = (ltb (p .0) 0x80 && ltb (p .1) 0x80) && ascii ps
+abbrev asciiPairs : List (ℕ × ℕ) → Bool
+asciiPairs [] = true
+asciiPairs (p ∷ ps) = (ltb (p .0) 0x80 && ltb (p .1) 0x80) && asciiPairs ps
 
-look-ascii : (e : ℕ) (ps : List (ℕ × ℕ)) → ascii ps ≡ true → (look ps e < 0x80) × ((look ps e ≡ 0 → ⊥) → e < 0x80)
+look-ascii : (e : ℕ) (ps : List (ℕ × ℕ)) → asciiPairs ps ≡ true → (look ps e < 0x80) × ((look ps e ≡ 0 → ⊥) → e < 0x80)
 look-ascii e [] h = (omega arith, λ n. absurd (n refl))
 look-ascii e (p ∷ ps) h =
     let k = ltb (p .0) 0x80 in
     let v = ltb (p .1) 0x80 in
-    let both = and-left (k && v) (ascii ps) h in
-    let rest = look-ascii e ps (and-right (k && v) (ascii ps) h) in
+    let both = and-left (k && v) (asciiPairs ps) h in
+    let rest = look-ascii e ps (and-right (k && v) (asciiPairs ps) h) in
     pick-case (λ (x : ℕ). (x < 0x80) × ((x ≡ 0 → ⊥) → e < 0x80)) (eqb e (p .0))
     (λ q. (ltb-true (p .1) 0x80 (and-right k v both), λ _. rw (eqb-true e (p .0) q) (ltb-true (p .0) 0x80 (and-left k v both))))
     (λ _. rest)

@@ -7,7 +7,7 @@ use Prim.Native.Nat.{ℕ, _≤_, _<_}
 use native.Mathlib.Omega.{arith}
 use borrow.Author.Tests.{not-true, not-false, le-leb, lt-leb, leb-true, ltb-true, ltb-false, eqb-true, eqb-false}
 use mir.Val.{boolByte}
-use lib.Dec.{T, leb, ltb, eqb}
+use lib.Dec.{T, leb, ltb, eqb, lit≤}
 use lib.ListN.{length, List·getD-eq-default}
 use Rattle.base.specs.Choice.{pick}
 use Rattle.base.specs.Bytes.{byte, within}
@@ -134,6 +134,15 @@ within-one k x =
 pub as-number : (t : Bool) → boolByte t ≡ pick t 1 0
 as-number true = refl
 as-number false = refl
+
+pub one-or-zero : (t : Bool) → boolByte t ≤ 1
+one-or-zero true = lit≤ tt
+one-or-zero false = lit≤ tt
+
+-- the bytes of digits
+pub digit-range : (b : ℕ) → isDigit b ≡ true → (48 ≤ b) × (b ≤ 57)
+unfolding isDigit
+digit-range b e = (within-low 48 57 b e, within-high 48 57 b e)
 
 -- past the end of a text, where 0 is read, no digit stands
 pub no-digit : isDigit 0 ≡ false

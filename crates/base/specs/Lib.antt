@@ -2,6 +2,7 @@ pub mod Choice
 pub mod Characters
 pub mod Bytes
 pub mod Classes
+pub mod Digits
 pub mod Runs
 pub mod Blocks
 pub mod Buffers

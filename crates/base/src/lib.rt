@@ -7,6 +7,7 @@ ghost use lib.Seq.{sets};
 ghost use Rattle.base.specs.Bytes.{byte};
 
 pub mod class;
+pub mod digits;
 pub mod find;
 
 use crate::find::BLOCK;

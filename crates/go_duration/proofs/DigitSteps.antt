@@ -14,16 +14,11 @@ use borrow.Author.Tests.{lt-ltb, le-ltb, leb-true}
 use Rattle.base.specs.Bytes.{byte}
 use Rattle.base.specs.Classes.{isDigit}
 use Rattle.base.specs.Runs.{run, reach}
-use Rattle.base.proofs.Tests.{and-left, and-right, by-cases, in-text, no-digit, within-low, within-high}
+use Rattle.base.specs.Digits.{inDigits}
+use Rattle.base.proofs.Tests.{and-left, and-right, by-cases, in-text, no-digit, digit-range}
 use Rattle.go_duration.specs.Fraction.{most, scaleOf, more, room, Acc, acc, noDigits, addDigit, readDigits}
-use Rattle.go_duration.specs.Parse.{inDigits}
 use Rattle.go_duration.specs.Stages.{fractionOf, accOf, KeptTo, keepsAt}
 use Rattle.go_duration.specs.declared.fraction.Fraction.{Fraction}
-
--- ---- one digit
-pub digit-range : (b : ℕ) → isDigit b ≡ true → (48 ≤ b) × (b ≤ 57)
-unfolding isDigit
-digit-range b e = (within-low 48 57 b e, within-high 48 57 b e)
 
 -- ---- the digits that are dropped, which are counted alone
 read-over : (l : List ℕ) (f k n : ℕ) → readDigits l (acc f k n true) ≡ acc f k (n + run inDigits l) true

@@ -12,11 +12,10 @@ use lib.Dec.{leb, ltb, lit<, lit≤}
 use lib.Pow.{pow-add}
 use borrow.Author.Tests.{leb-true, leb-false, ltb-true, ltb-false, lt-ltb, le-ltb}
 use Rattle.base.specs.Classes.{isDigit}
-use Rattle.base.proofs.Tests.{and-right, by-cases, true-false}
+use Rattle.base.proofs.Tests.{and-right, by-cases, true-false, digit-range}
 use Rattle.go_duration.specs.Fraction.{most, nanosOf, more, room, Acc, acc, noDigits, addDigit, readDigits, fracOf, fractionNanos}
 use Rattle.go_duration.specs.Digits.{Kept, UnitNanos, Proper, allOf, countOf, digitCount, exactOf}
 use Rattle.go_duration.specs.Written.{ByOne}
-use Rattle.go_duration.proofs.DigitSteps.{digit-range}
 use Rattle.go_duration.proofs.Distance.{power-split, first-all, distance}
 
 -- of n digits that write w the first k are kept and form f; o: some were dropped

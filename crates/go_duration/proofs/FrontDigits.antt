@@ -14,12 +14,12 @@ use borrow.Author.Tests.{lt-ltb, le-ltb, ltb-true, ltb-false}
 use Rattle.base.specs.Bytes.{byte}
 use Rattle.base.specs.Classes.{isDigit}
 use Rattle.base.specs.Runs.{run, reach}
+use Rattle.base.specs.Digits.{inDigits, valueFrom}
 use Rattle.base.proofs.Tests.{by-cases, pick-first, pick-second}
 use Rattle.base.proofs.Reaches.{loop-step, loop-stop, loop-end}
 use Rattle.go_duration.specs.Fraction.{most, more, noDigits, readDigits}
 use Rattle.go_duration.specs.Digits.{allOf, digitCount, countOf}
-use Rattle.go_duration.specs.Units.{valueFrom}
-use Rattle.go_duration.specs.Parse.{inDigits, wholeEnd, wholeOf}
+use Rattle.go_duration.specs.Parse.{wholeEnd, wholeOf}
 use Rattle.go_duration.specs.Stages.{leadingInt}
 use Rattle.go_duration.specs.declared.part.Whole.{Whole}
 use Rattle.go_duration.specs.declared.part.Whole.the-variants as whole

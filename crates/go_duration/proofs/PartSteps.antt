@@ -11,12 +11,13 @@ use lib.ListN.{length, take, drop}
 use borrow.Author.Tests.{lt-ltb, le-ltb, eq-eqb, ne-eqb, eqb-true, eqb-false}
 use Rattle.base.specs.Bytes.{byte, sameBytes}
 use Rattle.base.specs.Runs.{reach}
+use Rattle.base.specs.Digits.{inDigits}
 use Rattle.base.proofs.Tests.{by-cases, pick-case, in-text, pick-same}
 use Rattle.base.proofs.Reaches.{reach-le, reach-rest}
 use Rattle.go_duration.specs.Fraction.{most, Acc, noDigits, readDigits, fracOf, fractionNanos}
 use Rattle.go_duration.specs.Digits.{countOf, UnitNanos}
 use Rattle.go_duration.specs.Units.{units, unitOf}
-use Rattle.go_duration.specs.Parse.{inDigits, inUnit, wholeEnd, hasPoint, fractionStart, fractionEnd, unitEnd, wholeOf, partUnit}
+use Rattle.go_duration.specs.Parse.{inUnit, wholeEnd, hasPoint, fractionStart, fractionEnd, unitEnd, wholeOf, partUnit}
 use Rattle.go_duration.specs.Parse.{partFraction, digitless, partOf}
 use Rattle.go_duration.specs.Stages.{fractionOf, accOf, ReadOf, fractionAt, nanosPart, unitPart}
 use Rattle.go_duration.specs.declared.fraction.Fraction.{Fraction}

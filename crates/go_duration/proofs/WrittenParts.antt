@@ -14,10 +14,11 @@ use Rattle.base.specs.Choice.{pick}
 use Rattle.base.specs.Bytes.{each, byte}
 use Rattle.base.specs.Classes.{isDigit}
 use Rattle.base.specs.Runs.{reach}
+use Rattle.base.specs.Digits.{inDigits, valueOf}
 use Rattle.base.proofs.Tests.{and-left, and-right, by-cases, pick-same, pick-second}
 use Rattle.go_duration.specs.Fraction.{most, Acc, readDigits, addDigit, fracOf, fractionNanos, noDigits}
-use Rattle.go_duration.specs.Units.{unitOf, valueOf}
-use Rattle.go_duration.specs.Parse.{inDigits, wholeEnd, hasPoint, fractionStart, fractionEnd, unitEnd, wholeOf, partUnit, partFraction}
+use Rattle.go_duration.specs.Units.{unitOf}
+use Rattle.go_duration.specs.Parse.{wholeEnd, hasPoint, fractionStart, fractionEnd, unitEnd, wholeOf, partUnit, partFraction}
 use Rattle.go_duration.specs.Parse.{digitless, partOf}
 use Rattle.go_duration.specs.Written.{WrittenPart, partBytes, partNanos}
 use Rattle.go_duration.specs.declared.part.Part.{Part}

@@ -11,11 +11,12 @@ use lib.Seq.{take-length}
 use Rattle.base.specs.Bytes.{each, byte, sameBytes}
 use Rattle.base.specs.Classes.{isDigit}
 use Rattle.base.specs.Runs.{run}
+use Rattle.base.specs.Digits.{inDigits, valueFrom}
 use Rattle.base.proofs.Fronts.{run-front}
 use Rattle.go_duration.specs.Fraction.{fractionNanos}
 use Rattle.go_duration.specs.Digits.{allOf, digitCount, exactOf}
-use Rattle.go_duration.specs.Units.{unitOf, valueFrom}
-use Rattle.go_duration.specs.Parse.{inDigits, signOf, unsigned, parseOf}
+use Rattle.go_duration.specs.Units.{unitOf}
+use Rattle.go_duration.specs.Parse.{signOf, unsigned, parseOf}
 use Rattle.go_duration.specs.Written.{WrittenPart, IsPart, Parts, Duration, exactFraction, PartNanos, Sums, SumOfParts, partNanos, totalOf}
 use Rattle.go_duration.specs.declared.parse.Parsed.the-variants as parsed
 use Rattle.go_duration.proofs.DigitsRead.{read-distance}

@@ -10,8 +10,9 @@ use Rattle.base.specs.Characters.{ascii}
 use Rattle.base.specs.Bytes.{sameBytes}
 use Rattle.base.specs.Classes.{isDigit}
 use Rattle.base.specs.Runs as runs
+use Rattle.base.specs.Digits.{valueFrom}
 use Rattle.go_duration.specs.Fraction.{scaleOf, productOf, nanosOf, addDigit, readDigits, fracOf, fractionNanos}
-use Rattle.go_duration.specs.Units.{units, unitOf, valueFrom}
+use Rattle.go_duration.specs.Units.{units, unitOf}
 use Rattle.go_duration.specs.Parse.{wholeEnd, hasPoint, fractionStart, fractionEnd, unitEnd, wholeOf, partUnit, partFraction}
 use Rattle.go_duration.specs.Parse.{digitless, partOf, sumFrom, withSign, unsigned, parseOf}
 use Rattle.go_duration.specs.Words.{Unit, unitRows}

@@ -11,8 +11,9 @@ use Rattle.base.specs.Choice.{pick}
 use Rattle.base.specs.Bytes.{byte, sameBytes}
 use Rattle.base.specs.Classes.{isDigit}
 use Rattle.base.specs.Runs.{reach}
+use Rattle.base.specs.Digits.{inDigits, valueOf}
 use Rattle.go_duration.specs.Fraction.{most, fractionNanos}
-use Rattle.go_duration.specs.Units.{unitOf, valueOf}
+use Rattle.go_duration.specs.Units.{unitOf}
 use Rattle.go_duration.specs.declared.part.Part.{Part}
 use Rattle.go_duration.specs.declared.part.Part.the-variants as part
 use Rattle.go_duration.specs.declared.parse.Total.{Total}
@@ -24,10 +25,6 @@ use Rattle.go_duration.specs.declared.parse.Parsed.the-variants as parse
 -- the sum of the parts: `Sum nanos` or `Bad`. `Parsed`, what a run is as a duration: `Nanos nanos` or `Bad`.
 
 -- ---- one part, at the front of a list
-
--- a digit; what follows it does not count
-abbrev pub inDigits : ℕ → ℕ → Bool
-inDigits a b = isDigit a
 
 -- "a unit, which runs to the next digit or point or to the end"
 abbrev pub inUnit : ℕ → ℕ → Bool

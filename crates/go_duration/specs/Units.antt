@@ -1,7 +1,6 @@
--- The units of durations, and the number that a list of digits writes.
+-- The units of durations.
 use mathlib.Core.List.{List, [], _∷_}
-use Prim.Native.Nat.{ℕ, _+_, _-_, _*_}
-use Prim.Native.Char.{code}
+use Prim.Native.Nat.{ℕ}
 use Rattle.base.specs.Characters.{ascii}
 use Rattle.base.specs.Choice.{pick}
 use Rattle.base.specs.Bytes.{sameBytes}
@@ -29,12 +28,3 @@ unitIn (r ∷ rs) u = pick (sameBytes u (r .0)) (r .1) (unitIn rs u)
 unfoldable pub unitOf : List ℕ → ℕ
 unfolding units
 unitOf u = unitIn units u
-
--- the number that digits write after w
-unfoldable pub valueFrom : ℕ → List ℕ → ℕ
-valueFrom w [] = w
-valueFrom w (b ∷ bs) = valueFrom (w * 10 + (b - code "0")) bs
-
--- the number that digits write: "Missing digits of a whole number count as 0"
-abbrev pub valueOf : List ℕ → ℕ
-valueOf l = valueFrom 0 l

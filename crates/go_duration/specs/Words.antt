@@ -4,7 +4,8 @@ use mathlib.Core.List.{List, [], _∷_, map}
 use Prim.Native.Nat.{ℕ}
 use Rattle.base.specs.Characters.{ascii}
 use Rattle.base.specs.Bytes.{sameBytes}
-use Rattle.go_duration.specs.Units.{units, unitOf, valueFrom, valueOf}
+use Rattle.base.specs.Digits.{valueFrom, valueOf}
+use Rattle.go_duration.specs.Units.{units, unitOf}
 
 -- ---- "A unit is its nanoseconds"
 

@@ -10,8 +10,9 @@ use lib.ListN.{length}
 use Rattle.base.specs.Choice.{pick}
 use Rattle.base.specs.Bytes.{each}
 use Rattle.base.specs.Classes.{isDigit}
+use Rattle.base.specs.Digits.{valueOf}
 use Rattle.go_duration.specs.Fraction.{most, fractionNanos}
-use Rattle.go_duration.specs.Units.{unitOf, valueOf}
+use Rattle.go_duration.specs.Units.{unitOf}
 
 -- "digits or none, perhaps a point and digits or none after it, and a unit"
 pub record WrittenPart : Type 0 where

@@ -1,10 +1,8 @@
 // The fraction of a duration: its digits, and its nanoseconds in floating point.
 use crate::MOST;
 ghost use mathlib.Core.Path.{_≡_};
-ghost use Rattle.base.specs.Runs.{reach};
 ghost use Rattle.go_duration.specs.Fraction.{scaleOf, nanosOf, fracOf, noDigits, readDigits};
 ghost use Rattle.go_duration.specs.Digits.{Proper, UnitNanos};
-ghost use Rattle.go_duration.specs.Parse.{inDigits};
 ghost use Rattle.go_duration.specs.Stages.{accOf, fractionOf, ReadOf, KeptTo, keepsAt};
 
 // 1.0 multiplied so many times by 10.0 is infinite.
@@ -103,20 +101,6 @@ fn keeps(s: &[u8], i: usize, f: u64) -> bool
     f * 10 + ((c - b'0') as u64) <= MOST
 }
 
-// The end of the digits from `at` on.
-fn digits_end(s: &[u8], at: usize) -> usize
-    ensures { λ r. ⌜ r ≡ reach inDigits (now (s .entry)) at ⌝ }
-{
-    let mut i = at;
-    while i < s.len() {
-        if !base::class::is_digit(s[i]) {
-            return i;
-        }
-        i += 1;
-    }
-    i
-}
-
 // Go's `leadingFraction`: the digits at the front of `s`. The zeros there, which may be many, need no
 // sums, and neither do the digits that are not kept.
 pub fn leading_fraction(s: &[u8]) -> Fraction
@@ -130,7 +114,7 @@ pub fn leading_fraction(s: &[u8]) -> Fraction
         scale = scale * 10.0;
         kept += 1;
     }
-    let count = digits_end(s, kept);
+    let count = base::digits::digits_end(s, kept);
     Fraction {
         f,
         kept,

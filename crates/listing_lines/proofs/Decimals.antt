@@ -9,7 +9,7 @@ use lib.Dec.{eqb}
 use borrow.Author.Tests.{eqb-true}
 use Rattle.base.specs.Choice.{pick}
 use Rattle.base.proofs.Tests.{pick-case}
-use Rattle.go_duration.specs.Units.{valueFrom, valueOf}
+use Rattle.base.specs.Digits.{valueFrom, valueOf}
 use Rattle.notation.specs.Decimal.{digitsOf, decimal}
 
 value-append : (w : ℕ) (xs ys : List ℕ) → valueFrom w (xs ++ ys) ≡ valueFrom (valueFrom w xs) ys

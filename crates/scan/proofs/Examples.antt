@@ -9,6 +9,7 @@ use Rattle.base.specs.Characters.{ascii}
 use Rattle.base.specs.Runs as runs
 use Rattle.base.specs.Bytes.{sameBytes}
 use Rattle.base.specs.Classes.{isDigit, isLowerAlpha, isIdentStart, isIdentPart, isDurationUnit, isSpace}
+use Rattle.base.specs.Digits.{valueFrom}
 use Rattle.token.specs.declared.kind.TokenKind.the-variants as K
 use Rattle.lexeme.specs.Lexeme.{extent, whole, illegal, precise, duration, Note, noteAtStart}
 use Rattle.lexeme.specs.declared.Lexeme.{Lexeme}
@@ -18,7 +19,7 @@ use Rattle.utf8.specs.Grammar.{utf8-char, charSize}
 use Rattle.utf8.specs.Check.{isTail, charEnd}
 use Rattle.utf8.specs.Character.{codeBits, decodeOf}
 use Rattle.go_duration.specs.Fraction.{scaleOf, productOf, nanosOf, addDigit, readDigits, fracOf, fractionNanos}
-use Rattle.go_duration.specs.Units.{units, unitOf, valueFrom}
+use Rattle.go_duration.specs.Units.{units, unitOf}
 use Rattle.go_duration.specs.Parse.{wholeEnd, hasPoint, fractionStart, fractionEnd, unitEnd, wholeOf, partUnit, partFraction, digitless}
 use Rattle.go_duration.specs.Parse.{partOf, sumFrom, withSign, unsigned, parseOf}
 use Rattle.scan.specs.Run.{endsTimestamp, inRun, unitPiece}

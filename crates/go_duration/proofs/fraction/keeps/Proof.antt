@@ -1,6 +1,6 @@
 -- `keeps` is `keepsAt`: its tests are those of the definition. Assumes nothing.
 use mathlib.Core.Path.{sym, _∙_}
-use Rattle.go_duration.proofs.DigitSteps.{digit-range}
+use Rattle.base.proofs.Tests.{digit-range}
 use borrow.Author.Tests.{not-true, not-false, le-leb, lt-leb}
 use borrow.Author.Needs.{needs}
 use Rattle.go_duration.proofs.fraction.keeps.Statement.{statement}

@@ -9,9 +9,9 @@ use borrow.Author.Needs.{needs}
 use borrow.Author.Tests.{eq-eqb, ne-eqb}
 use Rattle.base.proofs.Tests.{in-text}
 use Rattle.base.proofs.Reaches.{rest-is, reach-le}
+use Rattle.base.specs.Digits.{inDigits}
 use Rattle.go_duration.specs.Fraction.{noDigits, readDigits}
 use Rattle.go_duration.specs.Digits.{countOf}
-use Rattle.go_duration.specs.Parse.{inDigits}
 use Rattle.go_duration.specs.Stages.{fractionOf, fractionAt}
 use Rattle.go_duration.specs.declared.fraction.Fraction.{Fraction}
 use Rattle.go_duration.specs.declared.part.After.{After}

@@ -8,8 +8,7 @@ use lib.ListN.{length}
 use borrow.Author.Needs.{needs}
 use Rattle.base.specs.Bytes.{byte}
 use Rattle.base.specs.Classes.{isDigit}
-use Rattle.base.proofs.Tests.{failed, passed}
-use Rattle.go_duration.proofs.DigitSteps.{digit-range}
+use Rattle.base.proofs.Tests.{failed, passed, digit-range}
 use Rattle.go_duration.proofs.FrontDigits.{Reading, reading-first, reading-stop, reading-end, reading-over, reading-large, reading-more}
 use Rattle.go_duration.proofs.part.leading_int.Statement.{statement}
 use Rattle.go_duration.proofs.part.leading_int.Tie as tie

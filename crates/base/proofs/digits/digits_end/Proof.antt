@@ -2,13 +2,13 @@
 use mathlib.Core.Path.{_≡_, refl}
 use Prim.Native.Nat.{_-_}
 use lib.ListN.{length}
 use Rattle.base.specs.Runs.{reach}
 use Rattle.base.proofs.Reaches.{loop-step, loop-stop, loop-end}
 use Rattle.base.proofs.Tests.{failed, passed}
-use Rattle.go_duration.specs.Parse.{inDigits}
+use Rattle.base.specs.Digits.{inDigits}
 use borrow.Author.Needs.{needs}
-use Rattle.go_duration.proofs.fraction.digits_end.Statement.{statement}
-use Rattle.go_duration.proofs.fraction.digits_end.Tie as tie
+use Rattle.base.proofs.digits.digits_end.Statement.{statement}
+use Rattle.base.proofs.digits.digits_end.Tie as tie
 
 abbrev Inv-loop : tie.InvT-loop
 Inv-loop s at i₀ i = reach inDigits s i ≡ reach inDigits s at

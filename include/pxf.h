@@ -84,7 +84,7 @@ extern "C" {
 #define PXF_KIND_AT_DATASET 24
 #define PXF_KIND_AT_PROTO 25
 
-/* The reasons of an Illegal token, 1 to 18, and of a report: 2, 4 to 10, 12, 14, 19 and 20. */
+/* The reasons of an Illegal token, 1 to 18 and 21, and of a report: 2, 4 to 10, 12, 14, 19 and 20. */
 #define PXF_REASON_UNEXPECTED_CHARACTER 1 /* detail: its code point */
 #define PXF_REASON_OPEN_BLOCK_COMMENT 2
 #define PXF_REASON_NEWLINE_IN_STRING 3
@@ -105,6 +105,7 @@ extern "C" {
 #define PXF_REASON_BAD_DURATION 18
 #define PXF_REASON_STRING_ENDED_AT_NEWLINE 19
 #define PXF_REASON_BYTES_ENDED_AT_NEWLINE 20
+#define PXF_REASON_BAD_TIMESTAMP 21
 
 /* The refusals. */
 #define PXF_REFUSED_TEXT_TOO_LONG 1     /* the text exceeds PXF_MAX_MESSAGE_SIZE bytes */
@@ -170,6 +171,16 @@ uint8_t pxf_place_of(
     size_t text_len,
     uint64_t offset,       /* 0 to text_len, at no byte inside a character */
     int64_t answer[6]);    /* offset, line, column, 0, 0, 0 */
+
+/* Gives the instant of a timestamp, by RFC 3339 but for what docs/DIFFERENCES.md lists. It refuses nothing: bytes that are no date are an answer. A run
+ * that a text has as a Timestamp is a date, and one that it has as Illegal, reason 21, is none.
+ *
+ * The seconds are whole ones from 1970-01-01T00:00:00Z, rounded down, and below 0 for earlier dates; the nanoseconds after them are 0 to 999,999,999:
+ * `1969-12-31T23:59:59.5Z` gives -1 and 500,000,000. Digits after the ninth of a fraction are dropped. */
+uint8_t pxf_timestamp(
+    const uint8_t *run,    /* the run, any bytes: a Timestamp's are those from its start to its end */
+    size_t run_len,
+    int64_t answer[6]);    /* 1, seconds, nanoseconds, 0, 0, 0; where it is no date 0, 0, 0, 0, 0, 0 */
 
 /* Writes a token file: 9 + 16 * count bytes. */
 uint8_t pxf_write_token_file(

@@ -49,18 +49,18 @@ note : """
   x
    "y"
   """,
-b"3q2+" -12p3 2.5 1.5s true null 2024-05-18 [{()}]
+b"3q2+" -12p3 2.5 1.5s true null 2024-05-18T00:00:00Z [{()}]
 END
-printf '%s' '"\q ; + @' >>"$work/text"
+printf '%s' '"\q ; + @ 2024-05-18' >>"$work/text"
 expect '1:1 3 Comment "# boat"' '1:7 2 Newline' \
     '2:1 22 AtType "@type"' '2:7 4 Ident "a.B"' '2:10 2 Newline' \
     '3:1 23 AtDirective "keel"' '3:7 24 AtDataset "@dataset"' '3:16 25 AtProto "@proto"' '3:22 2 Newline' \
     '4:1 4 Ident "name"' '4:6 19 Equals "="' '4:8 5 String "a\x0a\x5cA\xc3\xa9"' '4:21 2 Newline' \
     '5:1 4 Ident "note"' '5:6 20 Colon ":"' '5:8 5 String "x\x0a "y""' '8:6 21 Comma ","' '8:7 2 Newline' \
     '9:1 10 Bytes "3q2+"' '9:9 6 Int "-12"' '9:15 7 Float "2.5"' '9:19 12 Duration "1.5s"' '9:24 8 Bool "true"' '9:29 9 Null "null"' \
-    '9:34 11 Timestamp "2024-05-18"' '9:45 15 LBracket "["' '9:46 13 LBrace "{"' '9:47 17 LParen "("' '9:48 18 RParen ")"' '9:49 14 RBrace "}"' \
-    '9:50 16 RBracket "]"' '9:51 2 Newline' \
-    '10:1 1 Illegal 9' '10:5 1 Illegal 1' '10:7 1 Illegal 16' '10:9 1 Illegal 15' '10:10 0 Eof'
+    '9:34 11 Timestamp "2024-05-18T00:00:00Z"' '9:55 15 LBracket "["' '9:56 13 LBrace "{"' '9:57 17 LParen "("' '9:58 18 RParen ")"' \
+    '9:59 14 RBrace "}"' '9:60 16 RBracket "]"' '9:61 2 Newline' \
+    '10:1 1 Illegal 9' '10:5 1 Illegal 1' '10:7 1 Illegal 16' '10:9 1 Illegal 15' '10:11 1 Illegal 21' '10:21 0 Eof'
 holds 'tokens, every kind' 0 tokens "$work/text"
 
 # How many lines the example prints, and those of a few lines of the text.
@@ -76,7 +76,8 @@ holds 'tokens, examples/sloop.pxf' 0 sloop
 
 # The quote after a bad escape opens another string.
 faults() { tokens examples/faults.pxf | grep Illegal; }
-expect '2:8 1 Illegal 3' '3:10 1 Illegal 16' '4:8 1 Illegal 18' '5:15 1 Illegal 1' '6:10 1 Illegal 9' '6:13 1 Illegal 3' '7:1 1 Illegal 15'
+expect '2:8 1 Illegal 3' '3:10 1 Illegal 16' '4:8 1 Illegal 18' '5:12 1 Illegal 21' '6:15 1 Illegal 1' '7:10 1 Illegal 9' '7:13 1 Illegal 3' \
+    '8:1 1 Illegal 15'
 holds 'tokens, examples/faults.pxf' 0 faults
 
 : >"$work/text"
@@ -103,6 +104,7 @@ static struct { int64_t tokens[40], reports[12]; uint8_t strings[4], file[60]; }
 static int64_t records[40], answer[6];
 static uint8_t file[60], large[PXF_MAX_MESSAGE_SIZE + 1];
 static const uint8_t text[] = {'a', ' ', '"', '\\', 'q'}, no_text[] = {'a', 0xff};
+static uint8_t run[] = "1969-12-31T23:59:59.5Z";
 
 static void lend(void) {
     memset(answer, 77, sizeof answer);
@@ -119,6 +121,7 @@ static int answers(int64_t a, int64_t b, int64_t c, int64_t d, int64_t e, int64_
     HOLDS(memcmp(&lent, &before, sizeof lent) == 0)
 #define READ_TEXT(text, length, tokens_len, strings_len, reports_len) \
     pxf_read_text(text, length, PXF_TOLERANT, 9, lent.tokens, tokens_len, lent.strings, strings_len, lent.reports, reports_len, answer)
+#define TIMESTAMP(length) pxf_timestamp(run, length, answer)
 #define READ_TOKEN(column) pxf_read_token(text, 5, 1, 1, column, PXF_TOLERANT, 9, lent.tokens, 12, lent.strings, 2, lent.reports, 10, answer)
 
 int main(void) {
@@ -141,6 +144,17 @@ int main(void) {
     REFUSED(PXF_REFUSED_NO_PLACE, 0, READ_TOKEN(1));
     ACCEPTED(pxf_place_of(text, 5, 5, answer), 5, 1, 6, 0, 0, 0);
     REFUSED(PXF_REFUSED_NO_PLACE, 0, pxf_place_of(text, 5, 6, answer));
+
+    /* Half a second before 1970; the same without its zone, no byte at all, and the same with minute 60. */
+    ACCEPTED(TIMESTAMP(22), 1, -1, 500000000, 0, 0, 0);
+    ACCEPTED(READ_TEXT(run, 22, 24, 0, 0), 2, 0, 0, 0, 0, 0);
+    HOLDS(lent.tokens[PXF_TOKEN_KIND] == PXF_KIND_TIMESTAMP && lent.tokens[PXF_TOKEN_REASON] == 0);
+    ACCEPTED(TIMESTAMP(21), 0, 0, 0, 0, 0, 0);
+    ACCEPTED(TIMESTAMP(0), 0, 0, 0, 0, 0, 0);
+    memcpy(run + 14, "60", 2);
+    ACCEPTED(TIMESTAMP(22), 0, 0, 0, 0, 0, 0);
+    ACCEPTED(READ_TEXT(run, 22, 24, 0, 0), 2, 0, 0, 0, 0, 0);
+    HOLDS(lent.tokens[PXF_TOKEN_KIND] == PXF_KIND_ILLEGAL && lent.tokens[PXF_TOKEN_REASON] == PXF_REASON_BAD_TIMESTAMP);
 
     ACCEPTED(pxf_write_token_file(records, 36, 3, lent.file, 57, answer), 57, 0, 0, 0, 0, 0);
     memcpy(file, lent.file, sizeof file);

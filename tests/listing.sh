@@ -77,6 +77,14 @@ printf %s '9223372036854775808ns' >text
 says '0 21 1 1 1 18 0' '21 21 1 22 0 0 0' >expected
 lists 'a duration that is too large'
 
+printf %s '2024-02-29T09:30:00Z' >text
+says '0 20 1 1 11 0 0' '20 20 1 21 0 0 0' >expected
+lists 'a timestamp'
+
+printf '2023-02-29T09:30:00Z\n 2024-' >text
+says '0 20 1 1 1 21 0' '20 21 1 21 2 0 0' '22 27 2 2 1 21 0' '27 27 2 7 0 0 0' >expected
+lists 'timestamps that are no date'
+
 printf '"' >text
 says '0 1 1 1 1 10 0' '1 1 1 2 0 0 0' >expected
 lists 'an open string'

@@ -15,7 +15,7 @@ pub struct Text {
     pub make: fn(usize) -> Vec<u8>,
 }
 
-pub const TEXTS: [Text; 21] = [
+pub const TEXTS: [Text; 23] = [
     yard("boats", 3.0, |size| filled(size, boat)),
     yard("rows", 3.0, rows),
     yard("strings", 3.0, |size| filled(size, string)),
@@ -34,6 +34,12 @@ pub const TEXTS: [Text; 21] = [
     bad("one number with a unit", |size| around("", "7", "s", size)),
     bad("one fraction with a unit", |size| {
         around("0.", "0", "1s", size)
+    }),
+    bad("timestamps", |size| {
+        around("", "2024-05-18T09:30:00.25Z\n", "", size)
+    }),
+    bad("one timestamp", |size| {
+        around("2024-05-18T09:30:00.", "7", "Z", size)
     }),
     bad("one open comment", |size| around("/*", "*a", "", size)),
     bad("blanks", |size| around("", " ", "", size)),

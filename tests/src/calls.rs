@@ -1,5 +1,5 @@
-//! The calls of the C interface on a text, each with what it has to leave
-//! behind: its number, its answer, and all of its buffers.
+//! The calls of the C interface on a text, and on a timestamp's run, each with
+//! what it has to leave behind: its number, its answer, all of its buffers.
 
 use std::fmt;
 
@@ -7,6 +7,7 @@ use crate::ffi::{self, Buffers};
 use crate::notation::{escaped, joined};
 use crate::records::{self, numbers, stepped};
 use crate::records::{Lent, Mode, Reading, Refusal, FIRST, RECORD};
+use crate::timestamp;
 use crate::token::Position;
 
 #[derive(Debug, Clone, Copy)]
@@ -31,6 +32,8 @@ pub enum Call {
     Text(Setting),
     Token(Position, Setting),
     Place(usize),
+    /// The text is a timestamp's run.
+    Timestamp,
 }
 
 /// Which calls are made on a text.
@@ -38,8 +41,8 @@ pub enum Call {
 pub enum Depth {
     /// The whole reading.
     Whole,
-    /// Besides, one token and the place of every offset and beyond, and one
-    /// token from untrue places.
+    /// Besides, one token and the place of every offset and beyond, one token
+    /// from untrue places, and the text as a timestamp's run.
     Everywhere,
 }
 
@@ -47,6 +50,16 @@ pub enum Depth {
 struct Accepted {
     answer: [i64; 6],
     reading: Reading,
+}
+
+impl Accepted {
+    /// Of a call that is lent no buffers and gives three numbers.
+    fn without_buffers([first, second, third]: [i64; 3]) -> Accepted {
+        Accepted {
+            answer: [first, second, third, 0, 0, 0],
+            reading: Reading::default(),
+        }
+    }
 }
 
 /// All that a call leaves behind.
@@ -100,7 +113,7 @@ pub fn compare_call(text: &[u8], call: Call) -> Result<u64, Box<Difference>> {
 const WRAP: usize = 1 << 32;
 
 fn calls_everywhere(text: &[u8], setting: Setting) -> Vec<Call> {
-    let mut calls = Vec::new();
+    let mut calls = vec![Call::Timestamp];
     let mut place = FIRST;
     for offset in 0..text.len() + 3 {
         let Position { line, column, .. } = place;
@@ -153,10 +166,13 @@ impl Call {
             }
             Call::Place(offset) => {
                 let [offset, line, column] = numbers(records::place_of(text, offset)?);
-                return Ok(Accepted {
-                    answer: [offset, line, column, 0, 0, 0],
-                    reading: Reading::default(),
-                });
+                return Ok(Accepted::without_buffers([offset, line, column]));
+            }
+            Call::Timestamp => {
+                let date = timestamp::parse(text);
+                let numbers =
+                    date.map(|(seconds, nanoseconds)| [1, seconds, i64::from(nanoseconds)]);
+                return Ok(Accepted::without_buffers(numbers.unwrap_or_default()));
             }
         };
         let counts = [
@@ -176,7 +192,7 @@ impl Call {
     /// of them one short; and those that suffice for any text of the length,
     /// each of them one short too, since with these a text is not measured.
     fn rooms(self, text: &[u8], from_rust: &Result<Accepted, Refusal>) -> Vec<Lent> {
-        if let Call::Place(_) = self {
+        if let Call::Place(_) | Call::Timestamp = self {
             return vec![Lent::NONE];
         }
         let exact = from_rust
@@ -215,6 +231,7 @@ impl Call {
                 ffi::read_token(text, place, mode, limit, &mut buffers, &mut answer)
             }
             Call::Place(offset) => ffi::place_of(text, offset, &mut answer),
+            Call::Timestamp => ffi::timestamp(text, &mut answer),
         };
         Outcome {
             number,

@@ -106,8 +106,9 @@ pub const MINIATURE: &[Case] = &[
         [1, 10, 0, 6, 7, 1, 7, 7, 0, 0, 0, 0],
         [0, 0, 0, 7, 7, 1, 8, 7, 0, 0, 0, 0],
     ]),
+    // Document 01 has a Timestamp; change request #101 has it judged.
     strict("2024-", &[
-        [11, 0, 0, 0, 5, 1, 1, 0, 5, 0, 0, 0],
+        [1, 21, 0, 0, 5, 1, 1, 5, 0, 0, 0, 0],
         [0, 0, 0, 5, 5, 1, 6, 5, 0, 0, 0, 0],
     ]),
     strict("-2024-", &[
@@ -182,7 +183,7 @@ pub const FURTHER: &[Case] = &[
     ], "", &[
         [10, 0, 6, 1, 7],
     ]) },
-    // "Contents of Timestamp and Bytes aren't judged"
+    // "Contents of ... Bytes aren't judged"
     strict("b\"!\"", &[
         [10, 0, 0, 0, 4, 1, 1, 2, 1, 0, 0, 0],
         [0, 0, 0, 4, 4, 1, 5, 4, 0, 0, 0, 0],

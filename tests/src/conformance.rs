@@ -1,6 +1,7 @@
 //! The conformance list: texts with what document 01 expects of their whole
-//! reading, of one token from a place, or of the place of an offset, taken
-//! from the Rust, for whoever builds another reader.
+//! reading, of one token from a place, or of the place of an offset, and
+//! timestamps' runs with their instants, taken from the Rust, for whoever
+//! builds another reader.
 //!
 //! Of the refusals of a text, 2 to 6 are in it. Number 1 is not: the smallest
 //! text that it refuses has 67,108,865 bytes, and `compare` tries that one.
@@ -16,10 +17,11 @@ use crate::notation::{escaped, joined};
 use crate::random::Random;
 use crate::records::{place_of, read_text, read_token, stepped};
 use crate::records::{Lent, Mode, Reading, Refusal, FIRST};
+use crate::timestamp;
 use crate::token::Position;
 
 /// How many cases there are.
-pub const COUNT: usize = 3_264;
+pub const COUNT: usize = 3_748;
 /// No text is longer, in bytes.
 pub const LONGEST_TEXT: usize = 400;
 /// No buffer is longer where its length is stated: the program that replays
@@ -51,16 +53,23 @@ pub enum Asked {
     OneToken(Position),
     /// The place of this offset.
     PlaceOf(usize),
+    /// The instant that it names, the text being a timestamp's run: any bytes.
+    Instant,
 }
 
 /// What an accepted case gives.
-#[derive(Debug, PartialEq, Eq)]
+#[derive(Debug, Default, PartialEq, Eq)]
 pub struct Answer {
     /// Where tokens are asked for: what is written.
     pub reading: Option<Reading>,
     /// The place at the one token's end, or of the offset.
     pub place: Option<Position>,
+    /// Where an instant is asked for: it, or that there is none.
+    pub instant: Option<Instant>,
 }
+
+/// The seconds and the nanoseconds, or `None` for no date.
+pub type Instant = Option<(i64, i32)>;
 
 /// The whole list, as it is stored.
 pub fn list() -> String {
@@ -74,8 +83,8 @@ pub fn questions() -> String {
 }
 
 /// The same at each call: first those written by hand, then those that try
-/// a rule with one thing after the other, then those that ask for one token or
-/// a place or lend short buffers, then grown texts.
+/// a rule with one thing after the other, then those that ask for one token, a
+/// place or an instant or lend short buffers, then grown texts.
 pub fn cases() -> Vec<Case> {
     let mut list = List(Vec::new());
     list.miniature();
@@ -91,10 +100,13 @@ pub fn cases() -> Vec<Case> {
     list.durations();
     list.duration_formula();
     list.duration_letters();
+    list.timestamps();
+    list.month_lengths();
     list.one_token();
     list.refused_texts();
     list.refused_places();
     list.places_of();
+    list.instants();
     list.rooms();
     list.order_of_checks();
     list.grown();
@@ -114,7 +126,8 @@ impl List {
         }
     }
 
-    /// One token, or buffers of stated lengths, or both; or a place.
+    /// One token, or buffers of stated lengths, or both; or a place or an
+    /// instant.
     fn add_call(
         &mut self,
         name: String,
@@ -132,6 +145,11 @@ impl List {
 
     fn add_place_of(&mut self, name: String, text: &[u8], offset: usize) {
         self.add_call(name, text, Mode::Strict, Asked::PlaceOf(offset), None);
+    }
+
+    fn add_instant(&mut self, variant: &str, run: &[u8]) {
+        let name = format!("instant-{variant}");
+        self.add_call(name, run, Mode::Strict, Asked::Instant, None);
     }
 
     fn miniature(&mut self) {
@@ -325,6 +343,35 @@ impl List {
         }
     }
 
+    /// Dates alone; runs that are none also where they are followed by one of
+    /// the bytes that end them.
+    fn timestamps(&mut self) {
+        for (variant, run) in table::DATES {
+            let name = format!("timestamp-{variant}");
+            self.add_both(name, run.as_bytes(), DEFAULT_LIMIT);
+        }
+        for (variant, run) in table::NO_DATES {
+            for (place, text) in [
+                ("", run.to_string()),
+                ("-in-list", format!("[{run}]")),
+                ("-before-comma", format!("{run},a")),
+                ("-before-hash", format!("{run}#a")),
+                ("-before-slashes", format!("{run}//a")),
+            ] {
+                let name = format!("timestamp-{variant}{place}");
+                self.add_both(name, text.as_bytes(), DEFAULT_LIMIT);
+            }
+        }
+    }
+
+    /// The last day of each month of a common year, and the day after it.
+    fn month_lengths(&mut self) {
+        for (variant, run) in month_ends(2023, 28) {
+            let name = format!("timestamp-{variant}");
+            self.add(name, run.as_bytes(), Mode::Strict, DEFAULT_LIMIT);
+        }
+    }
+
     /// One token from each offset; those inside a character are refused.
     fn one_token(&mut self) {
         for (variant, text) in table::ONE_TOKEN {
@@ -374,6 +421,24 @@ impl List {
         for (variant, text, offset) in table::NO_TEXT_NO_PLACE {
             let name = format!("refused-2-place-of-{variant}");
             self.add_place_of(name, text, *offset);
+        }
+    }
+
+    /// The runs above, asked for their instants; runs that no text has, and
+    /// others that only the instant tells apart; and the ends of all months.
+    fn instants(&mut self) {
+        for (variant, run) in table::DATES.iter().chain(table::NO_DATES) {
+            self.add_instant(variant, run.as_bytes());
+        }
+        for (variant, run) in table::INSTANTS {
+            self.add_instant(variant, run);
+        }
+        let nines = format!("2024-01-02T03:04:05.{}Z", "9".repeat(300));
+        self.add_instant("fraction-300-nines", nines.as_bytes());
+        for (kind, year, february) in [("common-year", 2023, 28), ("leap-year", 2024, 29)] {
+            for (variant, run) in month_ends(year, february) {
+                self.add_instant(&format!("{kind}-{variant}"), run.as_bytes());
+            }
         }
     }
 
@@ -457,6 +522,20 @@ fn whole_reading(name: String, text: &[u8], mode: Mode, limit: u64) -> Case {
     }
 }
 
+/// The last day of each month of a year, and the day after it, with the length
+/// of its February.
+fn month_ends(year: u32, february: u32) -> Vec<(String, String)> {
+    let lengths = [31, february, 31, 30, 31, 30, 31, 31, 30, 31, 30, 31];
+    let mut runs = Vec::new();
+    for (month, length) in (1..).zip(lengths) {
+        for (variant, day) in [("last-day", length), ("day-too-many", length + 1)] {
+            let run = format!("{year}-{month:02}-{day}T00:00:00Z");
+            runs.push((format!("month-{month:02}-{variant}"), run));
+        }
+    }
+    runs
+}
+
 /// The least and the greatest second byte of a character, by RFC 3629: no
 /// overlong forms, no surrogates, nothing above 0x10FFFF.
 fn second_bytes(lead: u8) -> (u8, u8) {
@@ -535,15 +614,17 @@ impl Case {
     pub fn answer(&self) -> Result<Answer, Refusal> {
         let (text, mode, limit) = (&self.text, self.mode, self.limit);
         let lent = self.room.unwrap_or(Lent::AMPLE);
-        let (reading, place) = match self.asked {
-            Asked::Whole => (Some(read_text(text, mode, limit, lent)?), None),
+        let mut answer = Answer::default();
+        match self.asked {
+            Asked::Whole => answer.reading = Some(read_text(text, mode, limit, lent)?),
             Asked::OneToken(from) => {
                 let (reading, end) = read_token(text, from, mode, limit, lent)?;
-                (Some(reading), Some(end))
+                (answer.reading, answer.place) = (Some(reading), Some(end));
             }
-            Asked::PlaceOf(offset) => (None, Some(place_of(text, offset)?)),
-        };
-        Ok(Answer { reading, place })
+            Asked::PlaceOf(offset) => answer.place = Some(place_of(text, offset)?),
+            Asked::Instant => answer.instant = Some(timestamp::parse(text)),
+        }
+        Ok(answer)
     }
 }
 
@@ -560,6 +641,7 @@ impl fmt::Display for Question<'_> {
             Asked::Whole => {}
             Asked::OneToken(from) => writeln!(f, "from {}", place_words(from))?,
             Asked::PlaceOf(offset) => writeln!(f, "at {offset}")?,
+            Asked::Instant => writeln!(f, "instant")?,
         }
         if let Some(room) = case.room {
             let lengths = [room.tokens, room.strings, room.reports];
@@ -574,7 +656,11 @@ impl fmt::Display for Case {
     fn fmt(&self, f: &mut fmt::Formatter<'_>) -> fmt::Result {
         write!(f, "{}", Question(self))?;
         match self.answer() {
-            Ok(Answer { reading, place }) => {
+            Ok(Answer {
+                reading,
+                place,
+                instant,
+            }) => {
                 if let Some(reading) = reading {
                     for record in &reading.records {
                         writeln!(f, "token {}", joined(record))?;
@@ -586,6 +672,11 @@ impl fmt::Display for Case {
                 }
                 if let Some(place) = place {
                     writeln!(f, "place {}", place_words(place))?;
+                }
+                match instant {
+                    Some(Some((seconds, nanos))) => writeln!(f, "date {seconds} {nanos}")?,
+                    Some(None) => writeln!(f, "no date")?,
+                    None => {}
                 }
             }
             Err(refusal) => writeln!(f, "refused {} {}", refusal.number, refusal.offset)?,

@@ -42,21 +42,17 @@ fn end_after_character(lexer: &mut Lexer<'_>, token: &Token) {
 }
 
 /// "Contents of Timestamp and Bytes aren't judged: where Rust calls them
-/// invalid, the kind is still Timestamp or Bytes, with Rust's end."
+/// invalid, the kind is still Timestamp or Bytes, with Rust's end." Of a
+/// Timestamp this holds no longer: change request #101 has it judged as the
+/// Rust does.
 fn unjudged(lexer: &Lexer<'_>, token: Token) -> Token {
-    if token.kind != TokenKind::Illegal {
+    if token.kind != TokenKind::Illegal || token.value != "invalid base64 in bytes literal" {
         return token;
     }
-    let (start, end) = (token.pos.offset, lexer.input_pos());
-    let (kind, run) = if token.value.starts_with("invalid timestamp: ") {
-        (TokenKind::Timestamp, start..end)
-    } else if token.value == "invalid base64 in bytes literal" {
-        // The Rust judges a closed literal only: `b"`, the run, `"`.
-        (TokenKind::Bytes, start + 2..end - 1)
-    } else {
-        return token;
-    };
-    Token::new(kind, as_str(&lexer.input_bytes()[run]), token.pos)
+    // The Rust judges a closed literal only: `b"`, the run, `"`.
+    let run = token.pos.offset + 2..lexer.input_pos() - 1;
+    let run = as_str(&lexer.input_bytes()[run]);
+    Token::new(TokenKind::Bytes, run, token.pos)
 }
 
 /// "Any product or sum above 2^63 is refused. So is a sum of 2^64, where Rust

@@ -75,6 +75,7 @@ mod pxf {
             tokens_len: usize,
             answer: *mut i64,
         ) -> u8;
+        fn pxf_timestamp(run: *const u8, run_len: usize, answer: *mut i64) -> u8;
     }
 
     /// The buffers that a call on a text is lent.
@@ -170,6 +171,13 @@ mod pxf {
                 answer.as_mut_ptr(),
             )
         }
+    }
+
+    /// 0; `answer` gets 1, the seconds and the nanoseconds of a date, or
+    /// zeros.
+    pub fn timestamp(run: &[u8], answer: &mut [i64; 6]) -> u8 {
+        // SAFETY: the function reads `run`, and writes the six numbers.
+        unsafe { pxf_timestamp(run.as_ptr(), run.len(), answer.as_mut_ptr()) }
     }
 
     /// 0 or the refusal's number; `answer` gets the bytes written.

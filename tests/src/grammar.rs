@@ -2,6 +2,7 @@
 
 use crate::duration::UNITS;
 use crate::random::Random;
+use crate::timestamp::{damage, grown_run, TELLING};
 
 /// A few tokens with what may stand between them.
 pub fn grown_text(random: &mut Random) -> String {
@@ -10,6 +11,17 @@ pub fn grown_text(random: &mut Random) -> String {
     ];
     (0..=random.below(8))
         .map(|_| token(random) + random.pick(&BETWEEN))
+        .collect()
+}
+
+/// A few timestamps, about half of them dates, and fewer other tokens. A
+/// function of its own, so that the conformance list keeps its grown texts.
+pub fn grown_timestamps(random: &mut Random) -> String {
+    (0..=random.below(4))
+        .map(|_| match random.one_in(3) {
+            true => token(random),
+            false => judged_timestamp(random),
+        })
         .collect()
 }
 
@@ -39,7 +51,7 @@ fn several(random: &mut Random, most: usize, part: fn(&mut Random) -> String) ->
 }
 
 /// Mostly the usual, seldom one of the others.
-fn mostly<T: Copy>(random: &mut Random, usual: T, others: &[T]) -> T {
+pub(crate) fn mostly<T: Copy>(random: &mut Random, usual: T, others: &[T]) -> T {
     match random.one_in(6) {
         true => random.pick(others),
         false => usual,
@@ -201,12 +213,26 @@ fn timestamp(random: &mut Random) -> String {
         ];
         random.pick(&PARTS).to_string()
     });
-    #[rustfmt::skip]
-    const ENDS: [&str; 12] = ["", " ", "\t", "\r", "\n", ",", "]", "}", ")", "#", "//", "/*"];
     let length = mostly(random, 4, &[3, 5]);
     let year = random.digits(length);
     let sign = mostly(random, "", &["-", "+"]);
-    format!("{sign}{year}-{rest}{}", random.pick(&ENDS))
+    format!("{sign}{year}-{rest}{}", random.pick(&TIMESTAMP_ENDS))
+}
+
+#[rustfmt::skip]
+const TIMESTAMP_ENDS: [&str; 12] = [
+    "", " ", "\t", "\r", "\n", ",", "]", "}", ")", "#", "//", "/*",
+];
+
+/// One that the Rust takes, or nearly so.
+fn judged_timestamp(random: &mut Random) -> String {
+    let mut run = grown_run(random);
+    if random.one_in(4) {
+        let byte = random.pick(TELLING);
+        damage(&mut run, byte, random);
+    }
+    let run = String::from_utf8(run).expect("all of it is ASCII");
+    run + random.pick(&TIMESTAMP_ENDS)
 }
 
 fn duration(random: &mut Random) -> String {

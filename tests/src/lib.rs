@@ -24,5 +24,6 @@ pub mod shrink;
 mod stand_ins;
 pub mod tally;
 pub mod texts;
+pub mod timestamp;
 pub mod timing;
 pub mod token_file;

@@ -255,6 +255,7 @@ pub(crate) fn reason_of(message: &str) -> i64 {
         _ if message.starts_with("invalid duration: ") => 18,
         "unterminated string: ended at newline" => 19,
         "unterminated bytes literal: ended at newline" => 20,
+        _ if message.starts_with("invalid timestamp: ") => 21,
         _ => panic!("no reason for the message {message:?}"),
     }
 }

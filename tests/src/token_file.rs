@@ -1,6 +1,7 @@
 //! Token files, written in plain Rust from document 01 alone: "A token file is
 //! ours: mark `OFT`, 16-bit version 1, 32-bit count, then per token kind and
 //! reason (8 bits each), start, end, line (32) and column (16), little-endian."
+//! Change request #101 adds reason 21 to those that they allow.
 
 use crate::records::{Record, RECORD};
 
@@ -66,10 +67,14 @@ impl Kept {
 
     /// The record rules for one token after one that ends at `previous_end`.
     fn follows(&self, previous_end: i64, last: bool) -> bool {
-        let reasons = if self.kind == 1 { 1..=18 } else { 0..=0 };
+        // Reasons 19 and 20 are those of reports.
+        let allows_reason = match self.kind {
+            1 => matches!(self.reason, 1..=18 | 21),
+            _ => self.reason == 0,
+        };
         let places = 1..=LARGEST_PLACE;
         (0..=25).contains(&self.kind)
-            && reasons.contains(&self.reason)
+            && allows_reason
             && (self.kind == 0) == last
             && self.start <= self.end
             && (self.start == self.end) == last

@@ -19,6 +19,7 @@ fn the_list_says_what_the_rust_gives() {
     let (mut names, mut kinds) = (BTreeSet::new(), BTreeSet::new());
     let (mut reasons, mut refusals) = (BTreeSet::new(), BTreeSet::new());
     let (mut accepted_from, mut accepted_at, mut accepted_room) = (false, false, false);
+    let (mut date, mut no_date) = (false, false);
     let mut lines = list.lines().peekable();
     for case in &cases {
         let read = head(&mut lines);
@@ -45,22 +46,26 @@ fn the_list_says_what_the_rust_gives() {
                 accepted_from |= matches!(read.asked, Asked::OneToken(_));
                 accepted_at |= matches!(read.asked, Asked::PlaceOf(_));
                 accepted_room |= read.room.is_some();
+                date |= answer.instant.is_some_and(|instant| instant.is_some());
+                no_date |= answer.instant == Some(None);
             }
             Err(refusal) => drop(refusals.insert(refusal.number)),
         }
     }
     assert_eq!(lines.next(), None);
     assert!(kinds.into_iter().eq(0..=25));
-    assert!(reasons.into_iter().eq(0..=20));
+    assert!(reasons.into_iter().eq(0..=21));
     assert!(refusals.into_iter().eq(2..=6));
     assert!(accepted_from && accepted_at && accepted_room);
+    assert!(date && no_date);
 }
 
-/// Every case has a mode and a limit, though a place depends on neither.
+/// Every case has a mode and a limit, though a place or an instant depends on
+/// neither.
 #[test]
-fn a_place_is_asked_for_with_the_usual_mode_and_limit() {
-    let asks_place = |case: &Case| matches!(case.asked, Asked::PlaceOf(_));
-    for case in cases().into_iter().filter(asks_place) {
+fn a_place_or_an_instant_is_asked_for_with_the_usual_mode_and_limit() {
+    let depends_on_neither = |case: &Case| matches!(case.asked, Asked::PlaceOf(_) | Asked::Instant);
+    for case in cases().into_iter().filter(depends_on_neither) {
         let (name, setting) = (case.name, (case.mode, case.limit, case.room));
         assert_eq!(setting, (Mode::Strict, DEFAULT_LIMIT, None), "{name}");
     }
@@ -75,7 +80,9 @@ fn the_questions_hold_no_answer() {
         assert_eq!(head(&mut lines), case);
     }
     assert_eq!(lines.next(), None);
-    let words = ["token", "strings", "report", "place", "refused", "end"];
+    let words = [
+        "token", "strings", "report", "place", "date", "no", "refused", "end",
+    ];
     let answers = |line: &&str| words.iter().any(|word| line.starts_with(word));
     assert_eq!(questions.lines().find(answers), None);
 }
@@ -105,6 +112,8 @@ fn head(lines: &mut Peekable<Lines>) -> Case {
         Asked::OneToken(place(words))
     } else if let Some(word) = value(lines, "at ") {
         Asked::PlaceOf(word.parse().unwrap())
+    } else if lines.next_if_eq(&"instant").is_some() {
+        Asked::Instant
     } else {
         Asked::Whole
     };
@@ -136,7 +145,7 @@ fn value<'a>(lines: &mut Peekable<Lines<'a>>, word: &str) -> Option<&'a str> {
 /// What is expected of a case, to its end.
 fn body(lines: &mut Peekable<Lines>) -> Result<Answer, Refusal> {
     let mut reading: Option<Reading> = None;
-    let (mut end, mut refused) = (None, None);
+    let (mut end, mut instant, mut refused) = (None, None, None);
     for line in lines {
         let (word, rest) = line.split_once(' ').unwrap_or((line, ""));
         match word {
@@ -144,6 +153,8 @@ fn body(lines: &mut Peekable<Lines>) -> Result<Answer, Refusal> {
             "strings" => reading.get_or_insert_default().strings = unescaped(rest),
             "report" => reading.get_or_insert_default().reports.push(numbers(rest)),
             "place" => end = Some(place(rest)),
+            "date" => instant = Some(Some(date(rest))),
+            "no" if rest == "date" => instant = Some(None),
             "refused" => refused = Some(numbers(rest)),
             "end" => break,
             other => panic!("a line with {other}"),
@@ -152,11 +163,12 @@ fn body(lines: &mut Peekable<Lines>) -> Result<Answer, Refusal> {
     let answer = Answer {
         reading,
         place: end,
+        instant,
     };
     let Some([number, offset]) = refused else {
         return Ok(answer);
     };
-    assert!(answer.reading.is_none() && answer.place.is_none());
+    assert_eq!(answer, Answer::default());
     Err(Refusal {
         number: number as u8,
         offset,
@@ -176,6 +188,11 @@ fn promised(name: &str) -> Option<u8> {
 fn place(words: &str) -> Position {
     let [offset, line, column] = numbers(words);
     Position::with_offset(line, column, offset)
+}
+
+fn date(words: &str) -> (i64, i32) {
+    let [seconds, nanos]: [i64; 2] = numbers(words);
+    (seconds, nanos.try_into().unwrap())
 }
 
 fn numbers<T: FromStr<Err: Debug> + Debug, const N: usize>(words: &str) -> [T; N] {

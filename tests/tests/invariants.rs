@@ -4,7 +4,7 @@
 use std::collections::BTreeSet;
 
 use oracle::cases::DEFAULT_LIMIT;
-use oracle::grammar::grown_text;
+use oracle::grammar::{grown_text, grown_timestamps};
 use oracle::random::Random;
 use oracle::records::{self, read_text, read_token, Lent, Mode, Reading, Refusal};
 use oracle::texts::random_text;
@@ -18,9 +18,10 @@ fn readings_of_random_texts() {
     let mut random = Random::new(1);
     let (mut kinds, mut reasons) = (BTreeSet::new(), BTreeSet::new());
     for _ in 0..TEXTS {
-        let text = match random.one_in(2) {
-            true => random_text(&mut random, 14),
-            false => grown_text(&mut random),
+        let text = match random.below(5) {
+            0 | 1 => random_text(&mut random, 14),
+            2 | 3 => grown_text(&mut random),
+            _ => grown_timestamps(&mut random),
         };
         let limit = random.pick(&[DEFAULT_LIMIT, 0, 2, 3, 6]);
         for mode in [Mode::Strict, Mode::Tolerant] {
@@ -38,7 +39,26 @@ fn readings_of_random_texts() {
     }
     // The texts have shown everything.
     assert!(kinds.into_iter().eq(0..=25));
-    assert!(reasons.into_iter().eq(0..=20));
+    assert!(reasons.into_iter().eq(0..=21));
+}
+
+/// The texts that timestamps are compared on show each verdict often.
+#[test]
+fn grown_timestamps_are_good_and_bad() {
+    let mut random = Random::new(1);
+    let (mut good, mut bad) = (0, 0);
+    for _ in 0..10_000 {
+        let text = grown_timestamps(&mut random);
+        let reading = read_text(text.as_bytes(), Mode::Strict, DEFAULT_LIMIT, Lent::AMPLE);
+        for record in reading.unwrap().records {
+            match record[..2] {
+                [11, 0] => good += 1,
+                [1, 21] => bad += 1,
+                _ => {}
+            }
+        }
+    }
+    assert!(good > 5_000 && bad > 5_000, "{good} good, {bad} bad");
 }
 
 /// Tokens and gaps are the whole text, gaps are blank, the last token is the

@@ -1,5 +1,5 @@
 // Answers the questions of the conformance list, which it reads from standard input: it prints each line as it is, and after each `text` what
-// `read_text`, `read_token` or `place_of` answers, in the list's form, and `end`.
+// `read_text`, `read_token`, `place_of` or `rfc3339::parse::parse` answers, in the list's form, and `end`.
 mod escaped;
 
 ghost use Prim.Native.Nat.{_*_, _≤_};
@@ -19,6 +19,7 @@ use reading::place::place_of;
 use reading::refusal::Refusal;
 use reading::text::ReadText;
 use reading::text::read_text;
+use rfc3339::parse::Instant;
 use token::layout::RECORD_WIDTH;
 use token::layout::REPORT_WIDTH;
 use token::place::Place;
@@ -30,11 +31,12 @@ const STRINGS: usize = 512;
 
 const REPORTS: usize = 512 * REPORT_WIDTH;
 
-// What is asked of a text: its whole reading, the token after a place, or the place of an offset.
+// What is asked of a text: its whole reading, the token after a place, the place of an offset, or the instant that it names as a timestamp's run.
 enum Asked {
     Whole,
     OneToken(Place),
     PlaceOf(usize),
+    Instant,
 }
 
 // How a text is read, what is asked of it, and how long the buffers are.
@@ -135,6 +137,13 @@ fn print_place(place: Place) {
     io::write_all(STDOUT_FILENO, b"\n");
 }
 
+fn print_date(seconds: i64, nanos: usize) {
+    io::write_all(STDOUT_FILENO, b"date ");
+    print_number(seconds, b' ');
+    io::print_decimal(STDOUT_FILENO, nanos as u64);
+    io::write_all(STDOUT_FILENO, b"\n");
+}
+
 // Reads a whole text and prints what it gives.
 fn answer_text(
     text: &[u8],
@@ -185,6 +194,16 @@ fn answer_place(text: &[u8], offset: usize) {
     }
 }
 
+// Prints the instant of a timestamp's run.
+fn answer_instant(run: &[u8]) {
+    match rfc3339::parse::parse(run) {
+        Instant::Date { seconds, nanos } => print_date(seconds, nanos),
+        Instant::NoDate => {
+            io::write_all(STDOUT_FILENO, b"no date\n");
+        }
+    }
+}
+
 // Lends buffers of the lengths asked for.
 fn answer(text: &[u8], how: How)
     requires { ⌜ Roomy how ⌝ }
@@ -217,6 +236,7 @@ fn answer(text: &[u8], how: How)
             &mut reports[..r],
         ),
         Asked::PlaceOf(offset) => answer_place(text, offset),
+        Asked::Instant => answer_instant(text),
     }
 }
 
@@ -284,6 +304,14 @@ fn at_offset(line: &[u8], how: How) -> How
     asking(mode, Asked::PlaceOf(parse::digits(line) as usize), how)
 }
 
+fn for_instant(how: How) -> How
+    requires { ⌜ Roomy how ⌝ }
+    ensures { λ r. ⌜ Roomy r ⌝ }
+{
+    let mode = how.mode;
+    asking(mode, Asked::Instant, how)
+}
+
 fn with_room(line: &[u8], how: How) -> How
     ensures { λ r. ⌜ Roomy r ⌝ }
 {
@@ -323,6 +351,7 @@ fn after_line(line: &[u8], how: How) -> How
         b'l' => with_limit(line, how),
         b'f' => from_place(line, how),
         b'a' => at_offset(line, how),
+        b'i' => for_instant(how),
         b'r' => with_room(line, how),
         _ => how,
     }

@@ -6,7 +6,7 @@ use lib.ListN.{length}
 use borrow.Author.Needs.{needs}
 use lib.IntN.{ℤ}
 use Rattle.base.specs.Bytes.{AreBytes}
-use Rattle.token.specs.Reason as reasons
+use Rattle.token.specs.Helpers.{lastReason}
 use Rattle.token.specs.declared.kind.TokenKind.{TokenKind}
 use Rattle.lexeme.specs.Lexeme.{extent, illegalReported, precise, duration}
 use Rattle.lexeme.specs.declared.Lexeme.{Lexeme}
@@ -17,7 +17,7 @@ pub record Within (s : List ℕ) (r : Lexeme) : Type 0 where
   pub value-in : r .value + r .size ≤ r .len
   pub precision-in : r .precision + r .digits ≤ r .len
   pub reports-in : r .reports ≤ r .len
-  pub reason-in : r .reason ≤ reasons.lastIllegal
+  pub reason-in : r .reason ≤ lastReason
   pub detail-in : AreBytes s → r .detail < 0x200000
 
 -- the makers' answers
@@ -25,7 +25,7 @@ pub extent-within : (s : List ℕ) (k : TokenKind) (n : ℕ) → 0 < n → n ≤
     → Within s (extent k n v size reports)
 extent-within s k n h e v size reports i j = search needs
 
-pub illegal-within : (s : List ℕ) (r d n reports : ℕ) → 0 < n → n ≤ length s → reports ≤ n → r ≤ reasons.lastIllegal → (AreBytes s → d < 0x200000)
+pub illegal-within : (s : List ℕ) (r d n reports : ℕ) → 0 < n → n ≤ length s → reports ≤ n → r ≤ lastReason → (AreBytes s → d < 0x200000)
     → Within s (illegalReported r d n reports)
 illegal-within s r d n reports h e k i j = search needs
 

@@ -19,6 +19,7 @@ use Rattle.utf8.proofs.Boundaries.{ascii-boundary, boundary-rest}
 use Rattle.go_duration.specs.Written.{SumOfParts}
 use Rattle.go_duration.proofs.WrittenSums.{sum-of-parts}
 use Rattle.token.specs.Kind.{kindNumber, stringNumber}
+use Rattle.token.specs.Reason.{badDuration}
 use Rattle.token.specs.Helpers.{onOneLine, Flat}
 use Rattle.token.proofs.KindNumbers.{number-kind}
 use Rattle.token.specs.declared.kind.TokenKind.{TokenKind}
@@ -37,17 +38,18 @@ use Rattle.scan.specs.declared.bytes.Stop.{Stop}
 use Rattle.scan.specs.declared.bytes.Stop.the-variants as stop
 use Rattle.scan.specs.Other.{lexOther}
 use Rattle.scan.proofs.Silent.{line-silent, ident-silent, other-silent, directive-silent, number-silent}
-use Rattle.scan.proofs.Scanned.{Plain, plain, Scanned, OnLine, Ends, whole-scanned, extent-scanned}
+use Rattle.scan.proofs.Scanned.{Plain, plain, StampRun, no-stamp, Scanned, OnLine, Ends, whole-scanned, extent-scanned}
 use Rattle.scan.proofs.Comments.{line-scanned, block-scanned, block-notes-size, block-notes-start}
 use Rattle.scan.proofs.Names.{ident-on-line, directive-on-line}
 use Rattle.scan.proofs.Numbers.{number-on-line}
 use Rattle.scan.proofs.Literals.{bytes-scanned, bytes-notes-size, bytes-notes-start}
 use Rattle.scan.proofs.Others.{other-scanned}
-use Rattle.strings.proofs.Laws.{string-within, string-kind, string-size, string-notes-size, illegal-bytes, notes-in, string-utf8, string-boundary}
+use Rattle.strings.proofs.Laws.{string-within, string-reason, string-kind, string-size, string-notes-size, illegal-bytes, notes-in, string-utf8}
+use Rattle.strings.proofs.Laws.{string-boundary}
 use Rattle.strings.specs.Literal.{lexString, stringBytes, stringNotes}
 use Rattle.triple_strings.specs.Triple.{quotes, closed, openTriple, lexTripleString, tripleBytes, tripleNotes}
 use Rattle.triple_strings.proofs.QuoteSearch.{quotes-long}
-use Rattle.triple_strings.proofs.Triples.{triple-within, triple-size, triple-boundary}
+use Rattle.triple_strings.proofs.Triples.{triple-within, triple-reason, triple-size, triple-boundary}
 use Rattle.triple_strings.proofs.ValueOctets.{triple-utf8}
 use Rattle.lexer.specs.Lexer.{classAt, lexBy, lexemeOf, stringBy, stringOf, notesBy, notesOf}
 use Rattle.lexer.specs.Token.{stringSize}
@@ -67,6 +69,7 @@ pub record Facts (s : List ℕ) (r : Lexeme) (bytes : List ℕ) (ns : List Note)
   pub notes : length ns ≡ r .reports
   pub notes-in : NotesIn (length s) ns
   pub duration : r .kind ≡ K.Duration → SumOfParts (take (r .len) s) (r .nanos)
+  pub timestamp : StampRun (r .kind) (r .reason) (take (r .len) s)
   pub boundary : Boundary s 0 → Boundary s (r .len)
   pub utf8 : Boundary s 0 → Octets bytes
   pub on-line : onOneLine (r .kind) ≡ true → Flat s (r .len)
@@ -91,6 +94,7 @@ scanned-facts s r ns c e f g =
       notes = e;
       notes-in = notes-all (length s) ns (λ x i. omega (arith, f x i));
       duration = λ q. let d = c .duration q in sum-of-parts (take (r .len) s) (r .nanos) (d .value) (d .no-plus) (d .not-zero);
+      timestamp = c .timestamp;
       boundary = c .boundary;
       utf8 = λ _. octets.none;
       on-line = g;
@@ -126,11 +130,11 @@ bytes-kind Strict s (stop.Open n) = refl
 bytes-kind Tolerant s (stop.Open n) = refl
 
 -- what a literal of the two string lexers finds
-literal-facts : (s : List ℕ) (r : Lexeme) (bytes : List ℕ) (ns : List Note) → Within s r → (r .kind ≡ K.String) ⊎ (r .kind ≡ K.Illegal)
-    → length bytes ≡ r .size → (r .kind ≡ K.Illegal → bytes ≡ []) → length ns ≡ r .reports → NotesIn (length s) ns
-    → (Boundary s 0 → Boundary s (r .len)) → (Boundary s 0 → Octets bytes) → Facts s r bytes ns
+literal-facts : (s : List ℕ) (r : Lexeme) (bytes : List ℕ) (ns : List Note) → Within s r → r .reason ≤ badDuration
+    → (r .kind ≡ K.String) ⊎ (r .kind ≡ K.Illegal) → length bytes ≡ r .size → (r .kind ≡ K.Illegal → bytes ≡ []) → length ns ≡ r .reports
+    → NotesIn (length s) ns → (Boundary s 0 → Boundary s (r .len)) → (Boundary s 0 → Octets bytes) → Facts s r bytes ns
 unfolding onOneLine kindNumber
-literal-facts s r bytes ns w k e f n i b u =
+literal-facts s r bytes ns w h k e f n i b u =
     record {
       within = w;
       not-eof = λ q. ⊎-elim (λ p. zero-one (cc)) (λ p. zero-one (cc)) k;
@@ -140,6 +144,7 @@ literal-facts s r bytes ns w k e f n i b u =
       notes = n;
       notes-in = i;
       duration = λ q. ⊎-elim (λ p. zero-one (cc)) (λ p. zero-one (cc)) k;
+      timestamp = no-stamp (λ q. ⊎-elim (λ p. zero-one (cc)) (λ p. zero-one (cc)) k) h;
       boundary = b;
       utf8 = u;
       on-line = ⊎-elim (λ p. other-kind (r .kind) (rw p)) (λ p. other-kind (r .kind) (rw p)) k;
@@ -195,13 +200,14 @@ module _ (m : Mode) (limit : ℕ) (s : List ℕ) (h : 0 < length s) where
   by-class C.Triple q =
       let z : quotes s ≡ true = rw (q .0, q .1 .0, q .1 .1) in
       let c = triple-size m s in
-      literal-facts s (lexTripleString m s) (tripleBytes m s) (tripleNotes m s) (triple-within m s (quotes-long s z)) (triple-kind m s)
-      (c .bytes-counted) (c .illegal-none) (c .notes-counted) (notes-all (length s) (tripleNotes m s) (λ x i. omega (arith, c .at-start x i)))
-      (λ b. triple-boundary m s b z) (λ b. triple-utf8 m s (boundary-rest s 0 b) z)
+      literal-facts s (lexTripleString m s) (tripleBytes m s) (tripleNotes m s) (triple-within m s (quotes-long s z))
+      (omega (arith, triple-reason m s)) (triple-kind m s) (c .bytes-counted) (c .illegal-none) (c .notes-counted)
+      (notes-all (length s) (tripleNotes m s) (λ x i. omega (arith, c .at-start x i))) (λ b. triple-boundary m s b z)
+      (λ b. triple-utf8 m s (boundary-rest s 0 b) z)
   by-class C.Quote q =
-      literal-facts s (lexString m s) (stringBytes m s) (stringNotes m s) (string-within m s h) (string-kind m s) (string-size m s)
-      (illegal-bytes m s) (string-notes-size m s) (notes-all (length s) (stringNotes m s) (λ x i. notes-in m s h x i .offset-in))
-      (λ b. string-boundary m s h b) (λ b. string-utf8 m s)
+      literal-facts s (lexString m s) (stringBytes m s) (stringNotes m s) (string-within m s h) (omega (arith, string-reason m s h))
+      (string-kind m s) (string-size m s) (illegal-bytes m s) (string-notes-size m s)
+      (notes-all (length s) (stringNotes m s) (λ x i. notes-in m s h x i .offset-in)) (λ b. string-boundary m s h b) (λ b. string-utf8 m s)
   by-class C.Bytes q =
       scanned-facts s (lexBytes m limit s) (bytesNotes m limit s) (bytes-scanned s (byte-in s 1 34 (omega arith) (q .1)) m limit)
       (bytes-notes-size m limit s) (bytes-notes-start m limit s)

@@ -1,6 +1,6 @@
 -- For `FoundToken`: the laws of the token at the front of any text, whatever lexeme function stands behind `lexemeIn`: the next token and the calls on a text
 -- know no more of it. The Eof keeps them by computation, any other token by its class. Assumes nothing.
-use mathlib.Core.Path.{_≡_, sym}
+use mathlib.Core.Path.{_≡_, sym, ap}
 use mathlib.Core.Bool.{true}
 use mathlib.Core.Logic.{⊎-elim}
 use mathlib.Core.List.{List, [], _∷_}
@@ -15,11 +15,11 @@ use Rattle.utf8.specs.Grammar.{Octets}
 use Rattle.utf8.specs.Onward.{Boundary}
 use Rattle.go_duration.specs.Written.{SumOfParts}
 use Rattle.token.specs.Kind.{kindNumber, eofNumber, durationNumber}
-use Rattle.token.specs.Helpers.{onOneLine, Flat}
-use Rattle.token.specs.Reason as reasons
+use Rattle.token.specs.Helpers.{onOneLine, Flat, lastReason}
 use Rattle.token.proofs.KindNumbers.{IsEof, number-kind}
 use Rattle.lexeme.specs.declared.Lexeme.{Lexeme}
 use Rattle.lexeme.proofs.Notes.{NotesIn, none}
+use Rattle.scan.proofs.Scanned.{StampRun, no-stamp}
 use Rattle.lexer.specs.Lexer.{lexemeOf, stringOf, notesOf}
 use Rattle.lexer.specs.Reading.{modeOf, lexemeIn, stringIn, notesIn}
 use Rattle.lexer.specs.Token.{stringSize}
@@ -39,7 +39,7 @@ pub record Lexes (r : Reading) (limit : ℕ) (s : List ℕ) (x : Lexeme) : Type 
   pub value-in : x .value + x .size ≤ x .len
   pub precision-in : x .precision + x .digits ≤ x .len
   pub reports-in : x .reports ≤ x .len
-  pub reason-in : x .reason ≤ reasons.lastIllegal
+  pub reason-in : x .reason ≤ lastReason
   pub detail-in : AreBytes s → x .detail < 0x200000
   -- its string and its reports are as many as it says
   pub string-counted : length (stringIn r s) ≡ stringSize (x .kind) (x .size)
@@ -51,6 +51,8 @@ pub record Lexes (r : Reading) (limit : ℕ) (s : List ℕ) (x : Lexeme) : Type 
   pub on-line : onOneLine (x .kind) ≡ true → Flat s (x .len)
   -- a Duration is the sum of its parts
   pub duration : kindNumber (x .kind) ≡ durationNumber → SumOfParts (take (x .len) s) (x .nanos)
+  -- a Timestamp's bytes are a date, those of a token with reason 21 are none
+  pub timestamp : StampRun (x .kind) (x .reason) (take (x .len) s)
 
 -- at the end of the text stands the Eof
 at-end : (r : Reading) (limit : ℕ) (s : List ℕ) → length s ≡ 0 → Lexes r limit s (lexemeIn r limit s)
@@ -58,6 +60,7 @@ unfolding lexemeIn stringIn notesIn lexemeOf stringOf notesOf kindNumber stringS
 at-end r limit [] e =
     let x = lexemeIn r limit [] in
     let d : kindNumber (x .kind) ≡ durationNumber → SumOfParts (take (x .len) []) (x .nanos) = λ k. absurd (omega arith) in
+    let t : StampRun (x .kind) (x .reason) (take (x .len) []) = no-stamp (λ k. absurd (omega (arith, ap kindNumber k))) (omega arith) in
     search (none, octets.none, needs)
 at-end r limit (x ∷ s) e = absurd (omega arith)
 

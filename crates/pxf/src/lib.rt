@@ -3,5 +3,6 @@
 mod answer;
 pub mod interface;
 pub mod texts;
+pub mod timestamps;
 pub mod token_files;
 mod values;

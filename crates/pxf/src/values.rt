@@ -2,12 +2,15 @@
 ghost use mathlib.Core.Path.{_≡_};
 ghost use Rattle.reading.specs.Answers.{readTextValues, readTokenValues, placeOfValues};
 ghost use Rattle.reading.specs.Refusals.{refusalValues};
+ghost use Prim.Native.Nat.{_<_};
 ghost use Rattle.pxf.specs.Texts.{sixOf};
-ghost use Rattle.pxf.specs.Helpers.{Fit63};
+ghost use Rattle.pxf.specs.Timestamps.{instantNumbers};
+ghost use Rattle.pxf.specs.Helpers.{Fit63, instantNanos};
 use reading::one::ReadToken;
 use reading::place::PlaceOf;
 use reading::refusal::Refusal;
 use reading::text::ReadText;
+use rfc3339::parse::Instant;
 
 // The values of a refusal.
 fn of_refusal(r: Refusal) -> [i64; 6]
@@ -69,5 +72,16 @@ pub fn of_place(r: PlaceOf) -> [i64; 6]
     match r {
         PlaceOf::At(p) => [p.offset as i64, p.line as i64, p.column as i64, 0, 0, 0],
         PlaceOf::Refused(x) => of_refusal(x),
+    }
+}
+
+// The values of an instant.
+pub fn of_instant(r: Instant) -> [i64; 6]
+    requires { ⌜ instantNanos r < 0x8000000000000000 ⌝ }
+    ensures { λ v. ⌜ v ≡ instantNumbers r ⌝ }
+{
+    match r {
+        Instant::Date { seconds, nanos } => [1, seconds, nanos as i64, 0, 0, 0],
+        Instant::NoDate => [0, 0, 0, 0, 0, 0],
     }
 }

@@ -2,6 +2,7 @@ pub mod NextToken
 pub mod From
 mod Laid
 mod Claims
+pub mod Timestamps
 mod Rows
 pub mod Fits
 pub mod Refusals

@@ -14,8 +14,7 @@ use Rattle.base.proofs.Tests.{pick-le}
 use Rattle.go_duration.specs.Written.{SumOfParts}
 use Rattle.token.specs.Kind.{kindNumber, durationNumber, isString}
 use Rattle.token.specs.Place.{placeAt}
-use Rattle.token.specs.Helpers.{Bounded}
-use Rattle.token.specs.Reason as reasons
+use Rattle.token.specs.Helpers.{Bounded, lastReason}
 use Rattle.token.specs.declared.layout.Report.{Report}
 use Rattle.token.proofs.KindNumbers.{IsEof}
 use Rattle.token.proofs.Places.{place-offset, place-bounded, offset-put}
@@ -23,6 +22,7 @@ use Rattle.lexeme.specs.Lexeme.{Note}
 use Rattle.lexeme.specs.Reports.{reportOf}
 use Rattle.lexeme.specs.Helpers.{notesNumbers}
 use Rattle.lexeme.proofs.Notes.{NotesIn}
+use Rattle.scan.proofs.Scanned.{StampRun}
 use Rattle.lexer.specs.Reading.{lexemeIn, stringIn, notesIn}
 use Rattle.lexer.specs.Token.{foundAt, foundEnd, tokenOf, nextToken, stringSize}
 use Rattle.lexer.specs.declared.next.Found.{Found}
@@ -59,7 +59,7 @@ pub record Read (m : Reading) (limit : ℕ) (text : List ℕ) (at : ℕ) (t : To
   pub precision-in : t .precision ≤ t .end .offset
   pub digits-in : t .digits ≤ t .end .offset
   pub reports-in : t .start .offset + t .reports ≤ t .end .offset
-  pub reason-in : t .reason ≤ reasons.lastIllegal
+  pub reason-in : t .reason ≤ lastReason
   pub detail-in : AreBytes text → t .detail < 0x200000
   pub ends : t .start .offset + lexemeIn m limit (drop (t .start .offset) text) .len ≡ t .end .offset
   pub string : length (stringAt m text t) ≡ stringSize (t .kind) (t .size)
@@ -67,6 +67,7 @@ pub record Read (m : Reading) (limit : ℕ) (text : List ℕ) (at : ℕ) (t : To
   pub notes-in : NotesIn (length (drop (t .start .offset) text)) (notesAt m limit text t)
   pub duration : kindNumber (t .kind) ≡ durationNumber
       → SumOfParts (take (t .end .offset - t .start .offset) (drop (t .start .offset) text)) (t .nanos)
+  pub timestamp : StampRun (t .kind) (t .reason) (take (t .end .offset - t .start .offset) (drop (t .start .offset) text))
 
 module _ {m : Reading} {limit : ℕ} {text : List ℕ} {at : ℕ} {t : Token} (r : Read m limit text at t) where
   -- lines and columns are at most one past their offset
@@ -123,6 +124,7 @@ module _ (m : Reading) (limit : ℕ) (text : List ℕ) (at : ℕ) (h : at ≤ le
           notes = x .notes-counted;
           notes-in = x .notes-within;
           duration = λ k. rw d (x .duration k);
+          timestamp = rw d (x .timestamp);
         })
 
   pub reads : Read m limit text at (nextToken m limit text at)

@@ -7,3 +7,4 @@ pub mod Calls
 pub mod Passes
 pub mod Chain
 pub mod Miniature
+pub mod Timestamps

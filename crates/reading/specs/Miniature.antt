@@ -1,4 +1,5 @@
--- Document 01's "Boats in miniature": each text with its mode and limit, the numbers of its tokens, its strings and its reports.
+-- Document 01's "Boats in miniature", one case as document 02 changes it: each text with its mode and limit, the numbers of its tokens, its strings
+-- and its reports.
 use mathlib.Core.Path.{_≡_}
 use mathlib.Core.List.{List, [], _∷_, _++_, map}
 use Prim.Native.Nat.{ℕ}
@@ -155,11 +156,13 @@ cases =
       strings = [];
       reports = [];
     }
-    ∷ record {
+    ∷
+    -- document 02, #101: "The `2024-` case becomes reason 21."
+    record {
       text = ascii "2024-";
       mode = Strict;
       limit = maxBytesLiteralLength;
-      tokens = row 11 0 0 0 5 1 1 0 5 0 0 (pos 0) ∷ row 0 0 0 5 5 1 6 5 0 0 0 (pos 0) ∷ [];
+      tokens = row 1 21 0 0 5 1 1 5 0 0 0 (pos 0) ∷ row 0 0 0 5 5 1 6 5 0 0 0 (pos 0) ∷ [];
       strings = [];
       reports = [];
     }
@@ -200,6 +203,6 @@ cases =
     }
     ∷ []
 
--- the lone theorem: every case is laid as the paper says
+-- the lone theorem: every case is laid as the papers say
 abbrev pub AsThePaperSays : Type 0
 AsThePaperSays = map held cases ≡ map wanted cases

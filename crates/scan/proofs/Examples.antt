@@ -22,6 +22,9 @@ use Rattle.go_duration.specs.Fraction.{scaleOf, productOf, nanosOf, addDigit, r
 use Rattle.go_duration.specs.Units.{units, unitOf}
 use Rattle.go_duration.specs.Parse.{wholeEnd, hasPoint, fractionStart, fractionEnd, unitEnd, wholeOf, partUnit, partFraction, digitless}
 use Rattle.go_duration.specs.Parse.{partOf, sumFrom, withSign, unsigned, parseOf}
+use Rattle.rfc3339.specs.Calendar.{isLeap, monthLength}
+use Rattle.rfc3339.specs.Grammar as grammar
+use Rattle.rfc3339.specs.Instant.{dateBy}
 use Rattle.scan.specs.Run.{endsTimestamp, inRun, unitPiece}
 use Rattle.scan.specs.Comment.{lexLineComment, openEnd, bodyEnd, openComment, lexBlockComment, blockNotes}
 use Rattle.scan.specs.Name.{nameKind, lexIdent, directive, lexDirective}
@@ -84,8 +87,9 @@ cases =
     ∷ (bytes Strict 2 (ascii "b\"AAAA\"") (illegal 13 0 6) [])
     -- limit 2, tolerant
     ∷ (bytes Tolerant 2 (ascii "b\"AAAA\"") (illegal 13 0 6) [])
-    -- P `2024-`
-    ∷ (row (lexNumber (ascii "2024-")) (whole K.Timestamp 5))
+    -- P `2024-`, as document 02, #101, has it
+    ∷ (row (lexNumber (ascii "2024-")) (illegal 21 0 5))
+    ∷ (row (lexNumber (ascii "1970-01-01T00:00:00Z")) (whole K.Timestamp 20))
     -- P `-2024-`: Int, then Illegal 17
     ∷ (row (lexNumber (ascii "-2024-")) (whole K.Int 5))
     -- P its rest
@@ -108,9 +112,9 @@ cases =
     ∷ (row (lexNumber (ascii "1..2")) (whole K.Float 2))
     ∷ (row (lexNumber (ascii "1e")) (whole K.Float 2))
     ∷ (row (lexNumber (ascii "1.5e-3p20")) (precise K.Float 6 9))
-    ∷ (row (lexNumber (ascii "2024-01//")) (whole K.Timestamp 7))
+    ∷ (row (lexNumber (ascii "2024-01//")) (illegal 21 0 7))
     -- `2024-é)`
-    ∷ (row (lexNumber (ascii "2024-" ++ (0xC3 ∷ 0xA9 ∷ ascii ")"))) (whole K.Timestamp 7))
+    ∷ (row (lexNumber (ascii "2024-" ++ (0xC3 ∷ 0xA9 ∷ ascii ")"))) (illegal 21 0 7))
     ∷ (row (lexNumber (ascii "+inf")) (whole K.Float 4))
     ∷ (row (lexNumber (ascii "-infx")) (illegal 17 0 1))
     ∷ (row (lexNumber (ascii "+1")) (illegal 16 0 1))
@@ -146,7 +150,9 @@ worked : map (λ (c : Case). c .found) cases ≡ map (λ (c : Case). c .want) ca
 unfolding sameBytes isDigit isLowerAlpha isIdentStart isIdentPart isDurationUnit isSpace runs.run runs.reach runs.walk runs.past utf8-char
     charSize isTail charEnd codeBits decodeOf scaleOf productOf nanosOf addDigit readDigits fracOf fractionNanos units unitOf valueFrom
     wholeEnd hasPoint fractionStart fractionEnd unitEnd wholeOf partUnit partFraction digitless partOf sumFrom withSign unsigned parseOf mul
-    div ofInt toUnsigned endsTimestamp inRun unitPiece lexLineComment openEnd bodyEnd openComment lexBlockComment blockNotes nameKind
-    lexIdent directive lexDirective bytesStop lexBytes bytesNotes lexPrecision pastPoint pastSign pastExponent pastFraction atDurationUnit
-    lexDuration valueEnd lexTail lexTimestamp lexDigits atInf lexNumber lexOther
+    div ofInt toUnsigned isLeap monthLength grammar.pairOf grammar.isPair grammar.yearOf grammar.isFullyear grammar.isFullDate grammar.isT
+    grammar.hourEnd grammar.isHour grammar.isSecond grammar.hasSecfrac grammar.secfracEnd grammar.isSecfrac grammar.isPartialTime
+    grammar.isZ grammar.isDateTime dateBy endsTimestamp inRun unitPiece lexLineComment openEnd bodyEnd openComment lexBlockComment
+    blockNotes nameKind lexIdent directive lexDirective bytesStop lexBytes bytesNotes lexPrecision pastPoint pastSign pastExponent
+    pastFraction atDurationUnit lexDuration valueEnd lexTail lexTimestamp lexDigits atInf lexNumber lexOther
 worked = refl

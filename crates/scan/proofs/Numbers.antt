@@ -1,5 +1,5 @@
 -- For the crate above, `lexer`: numbers, timestamps and durations are within the text, end between characters and stay on their line; a
--- Duration's run is one that `parse` accepts. By the steps of Goes.antt and cases on the tests. Assumes nothing.
+-- Duration's run is one that `parse` accepts, a timestamp's is judged by `dateOf`. By the steps of Goes.antt and cases on the tests. Assumes nothing.
 use mathlib.Core.Path.{_≡_, refl, ap, _∙_}
 use mathlib.Core.Bool.{Bool, true, false, not, _&&_, _||_}
 use mathlib.Core.List.{List, [], _∷_}
@@ -22,20 +22,23 @@ use Rattle.token.specs.Reason as reasons
 use Rattle.token.specs.declared.kind.TokenKind.the-variants as K
 use Rattle.token.specs.declared.kind.TokenKind.{TokenKind}
 use Rattle.lexeme.specs.Lexeme.{illegal, precise}
-use Rattle.lexeme.proofs.Within.{precise-within, duration-within}
+use Rattle.lexeme.proofs.Within.{extent-within, illegal-within, precise-within, duration-within}
 use Rattle.go_duration.specs.Parse.{unsigned, parseOf}
 use Rattle.go_duration.specs.declared.parse.Parsed.the-variants as parsed
 use Rattle.go_duration.specs.declared.parse.Parsed.{Parsed}
 use Rattle.go_duration.proofs.Durations.{sent-digit, sent-minus}
+use Rattle.rfc3339.specs.Instant.{dateOf, isDate}
+use Rattle.rfc3339.specs.declared.parse.Instant.the-variants as instant
+use Rattle.rfc3339.specs.declared.parse.Instant.{Instant}
 use Rattle.scan.specs.Run.{inRun, unitPiece}
 use Rattle.scan.specs.Number.{lexPrecision, pastFraction, atDurationUnit, durationBy, lexDuration, goesOnFloat, numberKind, valueEnd}
-use Rattle.scan.specs.Number.{lexTail, lexTimestamp, lexDigits, atInf, isSign, lexNumber}
+use Rattle.scan.specs.Number.{lexTail, timestampBy, lexTimestamp, lexDigits, atInf, isSign, lexNumber}
 use Rattle.scan.specs.declared.run.Run.the-variants as run
 use Rattle.scan.proofs.Flats.{flat-none}
 use Rattle.scan.proofs.Runs.{oneByte, micro, micro-in, one-turn, micro-turn}
 use Rattle.scan.proofs.Goes.{Goes, goes-none, goes-then, goes-digits, goes-stamp, goes-units, goes-byte, goes-over, either-high}
 use Rattle.scan.proofs.Goes.{goes-fraction, goes-value}
-use Rattle.scan.proofs.Scanned.{Plain, plain, Scanned, OnLine, Ends, plain-scanned, whole-scanned, illegal-scanned}
+use Rattle.scan.proofs.Scanned.{Plain, plain, no-stamp, Scanned, OnLine, Ends, plain-scanned, whole-scanned, illegal-scanned}
 
 float : Plain K.Float
 unfolding kindNumber
@@ -45,10 +48,6 @@ number-plain : (x : Bool) → Plain (numberKind x)
 unfolding kindNumber
 number-plain true = float
 number-plain false = plain K.Int refl
-
-stamp : Plain K.Timestamp
-unfolding kindNumber
-stamp = plain K.Timestamp refl
 
 -- a unit's first byte belongs to the run of the units
 unit-lower : (a : ℕ) → isDurationUnit a ≡ true → isLowerAlpha a ≡ true
@@ -101,7 +100,8 @@ module _ (s : List ℕ) where
   ends-at e h g = record { some = h; inside = g .le zero-le; between = g .between }
 
   precise-scanned : (k : TokenKind) (e n : ℕ) → Plain k → e + 1 ≤ n → Ends s n → Scanned s (precise k e n)
-  precise-scanned k e n p h g = plain-scanned p (precise-within s k e n (omega arith) (g .inside)) (g .between)
+  precise-scanned k e n p h g =
+      plain-scanned p (precise-within s k e n (omega arith) (g .inside)) (g .between) (no-stamp (p .not-timestamp) (omega arith))
 
   -- a number that ends at e, before its precision
   precision-on-line : (k : TokenKind) (e : ℕ) → Plain k → 0 < e → Goes s 0 e → OnLine s (lexPrecision k s e)
@@ -144,6 +144,7 @@ module _ (s : List ℕ) where
           not-string = λ q. absurd (omega (arith, ap kindNumber q));
           boundary = g .between;
           duration = λ q. record { value = e; first = begun; no-plus = sent .0; not-zero = sent .1 };
+          timestamp = no-stamp (λ q. absurd (omega (arith, ap kindNumber q))) (omega arith);
         }
     duration-run parsed.Bad e g = illegal-scanned s n g reasons.badDuration 0 (omega arith) (omega arith)
 
@@ -166,13 +167,37 @@ module _ (s : List ℕ) where
       })
       (λ e. precision-on-line (numberKind x) (valueEnd s f x) (number-plain x) (omega (arith, begins-some b, v .ge)) (goes-then s g v))
 
+  -- a timestamp's run, n bytes, be it a date or none
+  run-scanned : (i : Instant) (n : ℕ) → dateOf (take n s) ≡ i → Ends s n → Scanned s (timestampBy i n)
+  unfolding kindNumber
+  run-scanned (instant.Date z k) n d e =
+      record {
+        within = extent-within s K.Timestamp n (e .some) (e .inside) 0 n 0 (omega arith) (omega arith);
+        not-eof = λ q. absurd (omega (arith, ap kindNumber q));
+        not-string = λ q. absurd (omega (arith, ap kindNumber q));
+        boundary = e .between;
+        duration = λ q. absurd (omega (arith, ap kindNumber q));
+        timestamp = record { date = λ _. ap isDate d; none = λ q. absurd (omega arith) };
+      }
+  run-scanned instant.NoDate n d e =
+      plain-scanned (plain K.Illegal refl)
+      (illegal-within s reasons.badTimestamp 0 n 0 (e .some) (e .inside) (omega arith) (omega arith) (λ _. omega arith)) (e .between)
+      (record { date = λ q. absurd (omega arith); none = λ _. ap isDate d })
+
+  run-flat : (i : Instant) (n : ℕ) → Flat s n → Flat s (timestampBy i n .len)
+  run-flat (instant.Date z k) n f = f
+  run-flat instant.NoDate n f = f
+
   -- a timestamp whose first digits end at n
   timestamp-on-line : (n : ℕ) → 0 < n → Goes s 0 n → OnLine s (lexTimestamp s n)
   unfolding lexTimestamp
   timestamp-on-line n h g =
+      let e = reach (inRun run.Stamp) s n in
       let t = goes-then s g (goes-stamp s n) in
-      let e = ends-at _ (omega (arith, reach-ge (inRun run.Stamp) s n)) t in
-      record { scanned = whole-scanned s _ e K.Timestamp stamp; flat = t .flat (flat-none s) }
+      record {
+        scanned = run-scanned (dateOf (take e s)) e refl (ends-at e (omega (arith, reach-ge (inRun run.Stamp) s n)) t);
+        flat = run-flat (dateOf (take e s)) e (t .flat (flat-none s));
+      }
 
   -- the digits from i on, where there is one
   digits-on-line : (i : ℕ) → Goes s 0 i → isDigit (byte s i) ≡ true → ((f : ℕ) → i < f → Begins s f) → OnLine s (lexDigits s i)
@@ -204,7 +229,7 @@ module _ (s : List ℕ) where
         (goes-then s (goes-over s 110 (omega arith) (omega arith) 2 (and-right x y two))
         (goes-over s 102 (omega arith) (omega arith) 3 (and-right (x && y) z word))))
 
-    sign-on-line : (reason : ℕ) → reason ≤ reasons.lastIllegal → OnLine s (illegal reason 0 1)
+    sign-on-line : (reason : ℕ) → reason ≤ reasons.badDuration → OnLine s (illegal reason 0 1)
     sign-on-line reason h = record { scanned = illegal-scanned s 1 (ends-at 1 (omega arith) sign) reason 0 h (omega arith); flat = sign .flat (flat-none s) }
 
   -- the byte at the front is a sign or a digit

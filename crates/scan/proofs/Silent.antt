@@ -13,13 +13,16 @@ use Rattle.base.proofs.Tests.{pick-case}
 use Rattle.go_duration.specs.Parse.{parseOf}
 use Rattle.go_duration.specs.declared.parse.Parsed.{Parsed}
 use Rattle.go_duration.specs.declared.parse.Parsed.the-variants as parsed
+use Rattle.rfc3339.specs.Instant.{dateOf}
+use Rattle.rfc3339.specs.declared.parse.Instant.{Instant}
+use Rattle.rfc3339.specs.declared.parse.Instant.the-variants as instant
 use Rattle.token.specs.declared.kind.TokenKind.{TokenKind}
 use Rattle.lexeme.specs.declared.Lexeme.{Lexeme}
 use Rattle.scan.specs.Run.{inRun, unitPiece}
 use Rattle.scan.specs.Comment.{lexLineComment}
 use Rattle.scan.specs.Name.{typeWord, datasetWord, protoWord, lexIdent, directive, lexDirective}
 use Rattle.scan.specs.Number.{lexPrecision, pastFraction, atDurationUnit, durationBy, lexDuration, goesOnFloat, numberKind, valueEnd, lexTail}
-use Rattle.scan.specs.Number.{lexTimestamp, lexDigits, atInf, isSign, lexNumber}
+use Rattle.scan.specs.Number.{timestampBy, lexTimestamp, lexDigits, atInf, isSign, lexNumber}
 use Rattle.scan.specs.Other.{lexOther}
 use Rattle.scan.specs.declared.run.Run.the-variants as run
 
@@ -67,9 +70,13 @@ module _ (s : List ℕ) where
       (λ _. duration-silent (parseOf (take (past unitPiece s f) s)) (past unitPiece s f))
       (λ _. precision-silent (numberKind float) (valueEnd s f float))
 
+  date-silent : (i : Instant) (n : ℕ) → timestampBy i n .reports ≡ 0
+  date-silent (instant.Date z k) n = refl
+  date-silent instant.NoDate n = refl
+
   timestamp-silent : (n : ℕ) → lexTimestamp s n .reports ≡ 0
   unfolding lexTimestamp
-  timestamp-silent n = refl
+  timestamp-silent n = let e = reach (inRun run.Stamp) s n in date-silent (dateOf (take e s)) e
 
   digits-silent : (i : ℕ) → lexDigits s i .reports ≡ 0
   unfolding lexDigits

@@ -12,6 +12,9 @@ use Rattle.base.specs.Runs.{reach, past}
 use Rattle.go_duration.specs.Parse.{parseOf}
 use Rattle.go_duration.specs.declared.parse.Parsed.{Parsed}
 use Rattle.go_duration.specs.declared.parse.Parsed.the-variants as parsed
+use Rattle.rfc3339.specs.Instant.{dateOf}
+use Rattle.rfc3339.specs.declared.parse.Instant.{Instant}
+use Rattle.rfc3339.specs.declared.parse.Instant.the-variants as instant
 use Rattle.token.specs.Reason as reasons
 use Rattle.token.specs.declared.kind.TokenKind.{TokenKind}
 use Rattle.token.specs.declared.kind.TokenKind.the-variants as K
@@ -20,8 +23,8 @@ use Rattle.lexeme.specs.declared.Lexeme.{Lexeme}
 use Rattle.scan.specs.Run.{inRun, unitPiece}
 use Rattle.scan.specs.declared.run.Run.the-variants as run
 
--- Types that other files explain: `Parsed` in go_duration/specs/Parse.antt; `TokenKind` in token/specs/Kind.antt; `Lexeme` in lexeme/specs/Lexeme.antt;
--- `Run` in Run.antt.
+-- Types that other files explain: `Parsed` in go_duration/specs/Parse.antt; `Instant` in rfc3339/specs/Instant.antt; `TokenKind` in
+-- token/specs/Kind.antt; `Lexeme` in lexeme/specs/Lexeme.antt; `Run` in Run.antt.
 
 -- `lex_precision`: a number that ends at e; its precision is `p` and one or more digits, or nothing
 unfoldable pub lexPrecision : TokenKind → List ℕ → ℕ → Lexeme
@@ -75,9 +78,14 @@ lexTail s n f =
     let float = ltb n f || goesOnFloat (byte s f) in
     pick (atDurationUnit (byte s f) (byte s (f + 1))) (lexDuration s f) (lexPrecision (numberKind float) s (valueEnd s f float))
 
--- `lex_timestamp`, the first digits ending at n; document 01: "Contents of Timestamp and Bytes aren't judged", so it is all of its run
+-- a run of n bytes that `rfc3339::parse` takes is a Timestamp; document 02, #101: "a bad one is Illegal, reason 21, in both modes"
+abbrev pub timestampBy : Instant → ℕ → Lexeme
+timestampBy (instant.Date z k) n = whole K.Timestamp n
+timestampBy instant.NoDate n = illegal reasons.badTimestamp 0 n
+
+-- `lex_timestamp`, the first digits ending at n: the run is judged by itself
 unfoldable pub lexTimestamp : List ℕ → ℕ → Lexeme
-lexTimestamp s n = whole K.Timestamp (reach (inRun run.Stamp) s n)
+lexTimestamp s n = let e = reach (inRun run.Stamp) s n in timestampBy (dateOf (take e s)) e
 
 -- the digits from i on, and what follows them; document 01: "An unsigned run of exactly four digits before `-` starts a timestamp run"
 unfoldable pub lexDigits : List ℕ → ℕ → Lexeme

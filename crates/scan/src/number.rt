@@ -14,6 +14,7 @@ use base::peek;
 use go_duration::parse::Parsed;
 use go_duration::parse::parse;
 use lexeme::Lexeme;
+use rfc3339::parse::Instant;
 use token::kind::TokenKind;
 use token::reason;
 
@@ -136,9 +137,14 @@ fn lex_tail(s: &[u8], n: usize, f: usize) -> Lexeme
 
 // A timestamp whose first digits end at `n`.
 fn lex_timestamp(s: &[u8], n: usize) -> Lexeme
+    requires { ⌜ n ≤ length (now s) ⌝ }
     ensures { λ r. ⌜ r ≡ lexTimestamp (now (s .entry)) n ⌝ }
 {
-    lexeme::whole(TokenKind::Timestamp, reach_run(Run::Stamp, s, n))
+    let len = reach_run(Run::Stamp, s, n);
+    match rfc3339::parse::parse(&s[..len]) {
+        Instant::Date { .. } => lexeme::whole(TokenKind::Timestamp, len),
+        Instant::NoDate => lexeme::illegal(reason::BAD_TIMESTAMP, 0, len),
+    }
 }
 
 // The digits from `at` on, and what follows them; four unsigned digits before `-` start a timestamp.

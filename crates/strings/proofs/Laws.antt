@@ -135,7 +135,7 @@ module _ (m : Mode) (s : List ℕ) where
 
 -- ---- bounds
 
-reason-le : (m : Mode) (d : Decoded) → endReason (d .ending) ≤ reasons.openString → literalReason m d ≤ reasons.lastIllegal
+reason-le : (m : Mode) (d : Decoded) → endReason (d .ending) ≤ reasons.openString → literalReason m d ≤ reasons.stringNotUtf8
 unfolding literalReason
 reason-le Strict d h =
     pick-le (eqb (endReason (d .ending)) reasons.none) (pick-le (wellFormed (d .bytes)) (lit≤ tt) (lit≤ tt)) (omega arith)
@@ -240,7 +240,13 @@ module _ (m : Mode) (s : List ℕ) (h : 0 < length s) where
       (λ _. extent-within s K.String (d .stop) (omega (arith, b .bytes-in)) (b .upto) 0 (length (d .bytes)) (length (literalNotes m d))
       (omega (arith, b .bytes-in)) (omega (arith, b .notes-in)))
       (λ _. illegal-within s _ _ _ _ (omega (arith, b .bytes-in)) hi (omega (arith, b .notes-in))
-      (reason-le m d (b .reason)) (λ bytes. omega (arith, lettered .detail bytes)))
+      (omega (arith, reason-le m d (b .reason))) (λ bytes. omega (arith, lettered .detail bytes)))
+
+  -- its reason is at most the last of strings
+  pub string-reason : lexString m s .reason ≤ reasons.stringNotUtf8
+  string-reason =
+      by-verdict m s (λ r bs. r .reason ≤ reasons.stringNotUtf8) (λ _. lit≤ tt)
+      (λ _. reason-le m (literalOf m s) (literal-bounds m s h .reason))
 
   -- every report of it
   pub notes-in : (x : Note) → List·Memᴰ x (stringNotes m s) → NoteIn s x

@@ -1,4 +1,4 @@
--- For `lexer`, `reading` and `listing_lines`: a kind's number is at most the last, and says the kind. By cases on the kind. Assumes nothing.
+-- For `scan`, `lexer`, `reading` and `listing_lines`: a kind's number is at most the last, and says the kind. By cases on the kind. Assumes nothing.
 use mathlib.Core.Path.{_≡_, refl, sym, ap, _∙_}
 use mathlib.Core.List.{List, [], _∷_}
 use Prim.Native.Nat.{ℕ, _≤_}

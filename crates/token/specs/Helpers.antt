@@ -8,8 +8,8 @@ use lib.ListN.{length}
 use Rattle.base.specs.Bytes.{byte}
 use Rattle.limits.specs.Limits.{maxMessageSize}
 use Rattle.token.specs.Place.{newline, placeAt}
-use Rattle.token.specs.Kind.{isString, illegalNumber, newlineNumber, commentNumber, bytesNumber, durationNumber, kindNumber}
-use Rattle.token.specs.Reason.{bytesEndedAtNewline}
+use Rattle.token.specs.Kind.{isString, illegalNumber, newlineNumber, commentNumber, bytesNumber, timestampNumber, durationNumber, kindNumber}
+use Rattle.token.specs.Reason.{badTimestamp}
 use Rattle.token.specs.declared.place.Place.{Place}
 use Rattle.token.specs.declared.layout.Record.{Record}
 use Rattle.token.specs.declared.layout.Report.{Report}
@@ -70,9 +70,9 @@ pub record ReportFits (r : Report) : Type 0 where
 
 -- ---- reasons
 
--- the last of all: no report has a greater one
+-- the last of all: no token and no report has a greater one
 abbrev pub lastReason : ℕ
-lastReason = bytesEndedAtNewline
+lastReason = badTimestamp
 
 -- ---- kinds
 
@@ -88,6 +88,9 @@ isComment k = eqb (kindNumber k) commentNumber
 
 abbrev pub isBytes : TokenKind → Bool
 isBytes k = eqb (kindNumber k) bytesNumber
+
+abbrev pub isTimestamp : TokenKind → Bool
+isTimestamp k = eqb (kindNumber k) timestampNumber
 
 abbrev pub isDuration : TokenKind → Bool
 isDuration k = eqb (kindNumber k) durationNumber

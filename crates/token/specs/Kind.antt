@@ -26,6 +26,9 @@ stringNumber = 5
 abbrev pub bytesNumber : ℕ
 bytesNumber = 10
 
+abbrev pub timestampNumber : ℕ
+timestampNumber = 11
+
 abbrev pub durationNumber : ℕ
 durationNumber = 12
 
@@ -46,7 +49,7 @@ kindNumber K.Float = 7
 kindNumber K.Bool = 8
 kindNumber K.Null = 9
 kindNumber K.Bytes = bytesNumber
-kindNumber K.Timestamp = 11
+kindNumber K.Timestamp = timestampNumber
 kindNumber K.Duration = durationNumber
 kindNumber K.LBrace = 13
 kindNumber K.RBrace = 14

@@ -1,6 +1,7 @@
--- The reasons of Illegal tokens and of reports: document 01, "Reasons".
+-- The reasons of Illegal tokens and of reports: document 01, "Reasons", and document 02, #101.
 use mathlib.Core.Path.{_≡_}
-use mathlib.Core.Bool.{Bool}
+use mathlib.Core.Bool.{Bool, _||_}
+use mathlib.Core.Logic.{_⊎_}
 use Prim.Native.Nat.{ℕ, _≤_}
 use lib.Dec.{eqb}
 use Rattle.base.specs.Choice.{pick}
@@ -91,19 +92,19 @@ stringEndedAtNewline = 19
 abbrev pub bytesEndedAtNewline : ℕ
 bytesEndedAtNewline = 20
 
--- the last of an Illegal token: "19 and 20 are reports only"
-abbrev pub lastIllegal : ℕ
-lastIllegal = badDuration
+-- "21", a bad timestamp; document 02, #101: "a bad one is Illegal, reason 21, in both modes, and token files now allow that reason"
+abbrev pub badTimestamp : ℕ
+badTimestamp = 21
 
--- the reasons of Illegal tokens
+-- the reasons of Illegal tokens: "19 and 20 are reports only"
 abbrev pub ofIllegal : ℕ → Bool
-ofIllegal r = within unexpectedCharacter lastIllegal r
+ofIllegal r = within unexpectedCharacter badDuration r || eqb r badTimestamp
 
--- which reason a record has with which kind: "reason 1 to 18 exactly for kind 1, else 0"
+-- which reason a record has with which kind; document 01: "reason 1 to 18 exactly for kind 1, else 0"; document 02, #101, adds 21 for kind 1
 abbrev pub reasonOk : ℕ → ℕ → Bool
 reasonOk kind r = pick (eqb kind illegalNumber) (ofIllegal r) (eqb r none)
 
 -- the same in plain logic
 pub record ReasonRule (kind r : ℕ) : Type 0 where
-  pub illegal : kind ≡ illegalNumber → (unexpectedCharacter ≤ r) × (r ≤ lastIllegal)
+  pub illegal : kind ≡ illegalNumber → ((unexpectedCharacter ≤ r) × (r ≤ badDuration)) ⊎ (r ≡ badTimestamp)
   pub other : (kind ≡ illegalNumber → ⊥) → r ≡ none

@@ -1,4 +1,4 @@
-// The reasons of Illegal tokens and of reports, by document 01's numbers.
+// The reasons of Illegal tokens and of reports, by the numbers of documents 01 and 02.
 ghost use mathlib.Core.Path.{_≡_};
 ghost use Rattle.token.specs.Reason.{reasonOk};
 use crate::kind::ILLEGAL;
@@ -48,12 +48,15 @@ pub const STRING_ENDED_AT_NEWLINE: usize = 19;
 // Of a report only.
 pub const BYTES_ENDED_AT_NEWLINE: usize = 20;
 
+pub const BAD_TIMESTAMP: usize = 21;
+
 // Whether a record may have this reason with the kind of this number.
 pub fn reason_ok(kind: usize, reason: usize) -> bool
     ensures { λ r. ⌜ r ≡ reasonOk kind reason ⌝ }
 {
     if kind == ILLEGAL {
-        return (UNEXPECTED_CHARACTER <= reason) & (reason <= BAD_DURATION);
+        return ((UNEXPECTED_CHARACTER <= reason) & (reason <= BAD_DURATION))
+            | (reason == BAD_TIMESTAMP);
     }
     reason == NONE
 }

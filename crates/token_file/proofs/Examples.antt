@@ -48,23 +48,34 @@ pub example-counts : writeAnswer three 3 57 ∷ writeAnswer three 2 57 ∷ write
 unfolding writeAnswer recordsOk rowsOf rowAt naturalRows naturalRow rowsOk rowOk fileWidth rowWidth version1
 example-counts = refl
 
--- one number changed: a start below 0, a start before the previous end, reasons 0 and 19 of an Illegal, an Ident that is empty, columns 65,535 and
--- 65,536, a kind 26, an Eof that is not last, a number that no file keeps
+-- one number changed: a start below 0, a start before the previous end, an Ident that is empty, columns 65,535 and 65,536, a kind 26, an Eof that is
+-- not last, a number that no file keeps
 pub example-changes : map (λ (l : List ℤ). writeAnswer l 3 57)
-    (set three 3 (negsuc 0) ∷ set three (recordWidth + 3) (pos 0) ∷ set three (recordWidth + 1) (pos 0) ∷ set three (recordWidth + 1) (pos 19)
-    ∷ set three 4 (pos 0) ∷ set three (recordWidth + 6) (pos 65535) ∷ set three (recordWidth + 6) (pos 65536) ∷ set three 0 (pos 26)
-    ∷ set three 0 (pos 0) ∷ set three 2 (pos 9) ∷ [])
-    ≡ written.BadRecords ∷ written.BadRecords ∷ written.BadRecords ∷ written.BadRecords ∷ written.BadRecords ∷ written.Bytes 57
+    (set three 3 (negsuc 0) ∷ set three (recordWidth + 3) (pos 0) ∷ set three 4 (pos 0) ∷ set three (recordWidth + 6) (pos 65535)
+    ∷ set three (recordWidth + 6) (pos 65536) ∷ set three 0 (pos 26) ∷ set three 0 (pos 0) ∷ set three 2 (pos 9) ∷ [])
+    ≡ written.BadRecords ∷ written.BadRecords ∷ written.BadRecords ∷ written.Bytes 57
     ∷ written.LongColumn ∷ written.BadRecords ∷ written.BadRecords ∷ written.Bytes 57 ∷ []
 unfolding writeAnswer recordsOk rowsOf rowAt naturalRows naturalRow rowsOk rowOk fileWidth rowWidth version1
 example-changes = refl
 
--- the file with one byte changed: none, the mark, the version, the count, an Illegal's reason 19, a column 0
+-- the Illegal's reason changed to 0, 1, 19, 20, 21 and 22
+pub example-reasons : map (λ (r : ℕ). writeAnswer (set three (recordWidth + 1) (pos r)) 3 57) (0 ∷ 1 ∷ 19 ∷ 20 ∷ 21 ∷ 22 ∷ [])
+    ≡ written.BadRecords ∷ written.Bytes 57 ∷ written.BadRecords ∷ written.BadRecords ∷ written.Bytes 57 ∷ written.BadRecords ∷ []
+unfolding writeAnswer recordsOk rowsOf rowAt naturalRows naturalRow rowsOk rowOk fileWidth rowWidth version1
+example-reasons = refl
+
+-- the file with one byte changed: none, the mark, the version, the count, a column 0, the first byte left out
 pub example-reads : map (λ (l : List ℕ). readAnswer l (3 * recordWidth))
-    (bytes ∷ set bytes 0 80 ∷ set bytes 3 2 ∷ set bytes 5 2 ∷ set bytes 26 19 ∷ set bytes 23 0 ∷ drop 1 bytes ∷ [])
-    ≡ loaded.Count 3 ∷ loaded.BadFile ∷ loaded.BadFile ∷ loaded.BadFile ∷ loaded.BadRecords ∷ loaded.BadRecords ∷ loaded.BadFile ∷ []
+    (bytes ∷ set bytes 0 80 ∷ set bytes 3 2 ∷ set bytes 5 2 ∷ set bytes 23 0 ∷ drop 1 bytes ∷ [])
+    ≡ loaded.Count 3 ∷ loaded.BadFile ∷ loaded.BadFile ∷ loaded.BadFile ∷ loaded.BadRecords ∷ loaded.BadFile ∷ []
 unfolding readAnswer framed sameBytes fileRows version1 fileCount unlittle bytesRows bytesRow rowWidth fileWidth rowsOk rowOk
 example-reads = refl
+
+-- the byte of the Illegal's reason changed to 0, 1, 19, 20, 21 and 22
+pub example-reasons-read : map (λ (r : ℕ). readAnswer (set bytes 26 r) (3 * recordWidth)) (0 ∷ 1 ∷ 19 ∷ 20 ∷ 21 ∷ 22 ∷ [])
+    ≡ loaded.BadRecords ∷ loaded.Count 3 ∷ loaded.BadRecords ∷ loaded.BadRecords ∷ loaded.Count 3 ∷ loaded.BadRecords ∷ []
+unfolding readAnswer framed sameBytes fileRows version1 fileCount unlittle bytesRows bytesRow rowWidth fileWidth rowsOk rowOk
+example-reasons-read = refl
 
 pub example-room : readAnswer bytes (3 * recordWidth - 1) ≡ loaded.NoRoom
 unfolding readAnswer framed sameBytes fileRows version1 fileCount unlittle bytesRows bytesRow rowWidth fileWidth rowsOk rowOk

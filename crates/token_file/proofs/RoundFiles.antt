@@ -2,6 +2,7 @@
 -- was read gives back the bytes, and no two lists of rows have the same file. Assumes nothing.
 use mathlib.Core.Path.{_≡_, refl, sym, ap, _∙_}
 use mathlib.Core.Bool.{Bool, true, false}
+use mathlib.Core.Logic.{⊎-elim}
 use mathlib.Core.List.{List, [], _∷_, append-nil}
 use Prim.Native.Nat.{ℕ, _*_, _≤_, _<_}
 use native.Mathlib.Omega.{arith}
@@ -153,7 +154,7 @@ pub reason-below : (k r : ℕ) → reasonOk k r ≡ true → r < 256
 reason-below k r t = go (eqb k illegalNumber) refl
   where
     go : (b : Bool) → eqb k illegalNumber ≡ b → r < 256
-    go true e = omega (arith, reason-plain k r t .illegal (eqb-true k illegalNumber e) .1)
+    go true e = ⊎-elim (λ i. omega (arith, i .1)) (λ q. omega (arith, q)) (reason-plain k r t .illegal (eqb-true k illegalNumber e))
     go false e = omega (arith, reason-plain k r t .other (eqb-false k illegalNumber e))
 
 -- two lists of rows that keep the rules, with no long column, and the same file: they are equal

@@ -7,7 +7,7 @@ use Prim.Native.Nat.{ℕ, _+_, _-_, _≤_}
 use native.Mathlib.Nat.{add-zero}
 use native.Mathlib.Omega.{arith}
 use borrow.Author.Tests.{ltb-true, leb-true}
-use lib.Dec.{leb}
+use lib.Dec.{leb, lit≤}
 use lib.ListN.{length, take, drop, length-drop}
 use lib.Seq.{drop-drop, getD-drop, length-take-le}
 use Rattle.base.specs.Choice.{pick}
@@ -97,6 +97,14 @@ triple-within m s h =
     (λ c. extent-within s K.String (rawSize s + 6) (omega arith) (closed-long s c) 0 (length (dedent (rawBytes s))) 0
     (omega (arith, value-le s h)) (omega arith))
     (open-within m s h)
+
+-- its reason is at most that of an open one
+pub triple-reason : (m : Mode) (s : List ℕ) → lexTripleString m s .reason ≤ reasons.openTripleString
+triple-reason m s = by-closed m s (λ r bs ns. r .reason ≤ reasons.openTripleString) (λ _. lit≤ tt) (go m)
+  where
+    go : (n : Mode) → openTriple n s .reason ≤ reasons.openTripleString
+    go Strict = lit≤ tt
+    go Tolerant = lit≤ tt
 
 -- ---- the bytes and the reports
 

@@ -14,7 +14,7 @@ use std::{slice, thread};
 use oracle::calls::{compare, compare_call, Call, Depth, Difference, Setting};
 use oracle::cases::DEFAULT_LIMIT;
 use oracle::conformance::{self, Asked};
-use oracle::grammar::grown_text;
+use oracle::grammar::{grown_text, grown_timestamps};
 use oracle::limits::MAX_MESSAGE_SIZE;
 use oracle::notation::escaped;
 use oracle::random::Random;
@@ -27,6 +27,7 @@ const WORKERS: usize = 2;
 /// After so many texts that differ the rest is left out.
 const ENOUGH: usize = 20;
 const GROWN_TEXTS: usize = 200_000;
+const GROWN_TIMESTAMPS: usize = 100_000;
 const LIMITS: [u64; 12] = [0, 1, 2, 3, 4, 5, 6, 7, 8, 9, DEFAULT_LIMIT, u64::MAX];
 
 fn main() -> ExitCode {
@@ -55,6 +56,7 @@ fn main() -> ExitCode {
     section("every character there is", every_character);
     section("sequences of up to 4 bytes", byte_sequences);
     section("grown texts and damaged copies", grown_texts);
+    section("timestamps, good and nearly good", timestamps);
     section("texts of the largest size", largest_texts);
     tally.finish()
 }
@@ -138,6 +140,7 @@ fn conformance_list(worker: &mut Worker) {
             Asked::Whole => Call::Text(setting),
             Asked::OneToken(from) => Call::Token(from, setting),
             Asked::PlaceOf(offset) => Call::Place(offset),
+            Asked::Instant => Call::Timestamp,
         };
         worker.examine_call(&case.name, &case.text, call);
     }
@@ -154,13 +157,14 @@ fn short_texts(worker: &mut Worker) {
     }
 }
 
-/// Each where it may stand: alone, in the literals, after a backslash, a digit
-/// and a timestamp's start, and as an indent.
+/// Each where it may stand: alone, in the literals, after a backslash, a digit,
+/// a timestamp's start and a whole timestamp, and as an indent.
 fn every_character(worker: &mut Worker) {
     for number in worker.share(0x11_0000) {
         if let Some(c) = char::from_u32(number as u32) {
             let text = format!(
-                "{c}\n\"{c}\"\n\"\\{c}\"\nb\"{c}\"\n1{c}\n2024-{c}\n\"\"\"\n{c}a\n{c}\"\"\""
+                "{c}\n\"{c}\"\n\"\\{c}\"\nb\"{c}\"\n1{c}\n2024-{c}\n2024-01-02T03:04:05Z{c}\n\
+                 \"\"\"\n{c}a\n{c}\"\"\""
             );
             let limit = LIMITS[number % LIMITS.len()];
             worker.examine_in_both_modes(text.as_bytes(), limit, Depth::Whole);
@@ -198,6 +202,13 @@ fn grown_texts(worker: &mut Worker) {
             let long = String::from_iter(more).into_bytes();
             worker.examine_in_both_modes(&long, DEFAULT_LIMIT, Depth::Whole);
         }
+    }
+}
+
+fn timestamps(worker: &mut Worker) {
+    for _ in worker.share(GROWN_TIMESTAMPS) {
+        let text = grown_timestamps(&mut worker.random).into_bytes();
+        grown(worker, &text);
     }
 }
 

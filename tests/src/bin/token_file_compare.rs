@@ -14,11 +14,15 @@ const RANDOM_RECORDS: usize = 1_000_000;
 /// Numbers at and beside the borders of the record rules, and of the widths
 /// in a file.
 #[rustfmt::skip]
-const BORDERS: [i64; 24] = [
-    i64::MIN, -(1 << 32), -1, 0, 1, 2, 17, 18, 19, 25, 26, 255, 256, 257, 65_535, 65_536,
-    67_108_863, 67_108_864, 67_108_865, 67_108_866, (1 << 32) - 1, 1 << 32, (1 << 32) + 1,
+const BORDERS: [i64; 27] = [
+    i64::MIN, -(1 << 32), -1, 0, 1, 2, 17, 18, 19, 20, 21, 22, 25, 26, 255, 256, 257, 65_535,
+    65_536, 67_108_863, 67_108_864, 67_108_865, 67_108_866, (1 << 32) - 1, 1 << 32, (1 << 32) + 1,
     i64::MAX,
 ];
+
+/// The reasons that an Illegal token has in a file.
+#[rustfmt::skip]
+const REASONS: [i64; 19] = [1, 2, 3, 4, 5, 6, 7, 8, 9, 10, 11, 12, 13, 14, 15, 16, 17, 18, 21];
 
 fn main() -> ExitCode {
     let mut random = Random::from_arguments();
@@ -125,7 +129,7 @@ fn random_records(random: &mut Random) -> Vec<i64> {
     for index in 0..=tokens {
         let is_last = index == tokens;
         let kind = if is_last { 0 } else { random.below(25) + 1 };
-        let reason = if kind == 1 { random.below(18) + 1 } else { 0 };
+        let reason = if kind == 1 { random.pick(&REASONS) } else { 0 };
         let start = end + random.below(step + 1);
         let length = if is_last {
             0
@@ -140,7 +144,7 @@ fn random_records(random: &mut Random) -> Vec<i64> {
         };
         // The numbers that a file drops may be any.
         let mut record: Record = [0; RECORD].map(|_| random.number() as i64);
-        (record[0], record[1]) = (kind as i64, reason as i64);
+        (record[0], record[1]) = (kind as i64, reason);
         (record[3], record[4]) = (start as i64, end as i64);
         (record[5], record[6]) = (line, column);
         records.extend(record);
@@ -207,7 +211,7 @@ fn damage_file(file: &mut Vec<u8>, random: &mut Random) {
         0 => file.truncate(at),
         1 => file.extend((0..random.below(33)).map(|_| random.byte())),
         2 => file[at.min(random.below(9))] = random.byte(),
-        3 => file[at] = random.pick(&[0, 1, 18, 19, 25, 26, 128, 255]),
+        3 => file[at] = random.pick(&[0, 1, 18, 19, 20, 21, 22, 25, 26, 128, 255]),
         4 => file[at] ^= 1 << random.below(8),
         _ => file[at] = random.byte(),
     }

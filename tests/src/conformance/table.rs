@@ -334,7 +334,7 @@ pub const RULES: &[Rule] = &[
         ("quote", "-\"\""),
     ]),
     // "An unsigned run of exactly four digits before `-` starts a timestamp
-    // run. Contents of Timestamp ... aren't judged".
+    // run." Change request #101 has it judged: most of these are bad.
     ("timestamp", &[
         ("good", "2024-01-02T03:04:05Z"),
         ("good-fraction", "2024-01-02T03:04:05.678Z"),
@@ -373,6 +373,16 @@ pub const RULES: &[Rule] = &[
         ("holds-vertical-tab", "2024-\u{b}1 a"),
         ("holds-form-feed", "2024-\u{c}1 a"),
         ("two", "2024-1 2025-2"),
+        ("good-two", "2024-01-02T03:04:05Z 2025-06-07T08:09:10Z"),
+        ("good-list", "[2024-01-02T03:04:05Z,2025-06-07T08:09:10Z]"),
+        ("good-row", "(1, 2024-01-02T03:04:05Z)"),
+        ("good-before-hash", "2024-01-02T03:04:05Z#a"),
+        ("good-before-slashes", "2024-01-02T03:04:05Z//a"),
+        ("good-before-slash", "2024-01-02T03:04:05Z/a"),
+        // The comma ends the run, the blank too.
+        ("comma-before-fraction", "2024-01-02T03:04:05,5Z"),
+        ("comma-after-date", "2024-01-02T03:04:05Z,5Z"),
+        ("blank-for-t", "2024-01-02 03:04:05Z"),
     ]),
     // "Durations (`go_duration::parse`): number at most 2^63, unit, repeated."
     ("duration", &[
@@ -844,6 +854,95 @@ pub const LIMITED: &[(&str, &[u64], &str)] = &[
     ("before-delete", &[2], "b\"AAAA\u{7f}\""),
     ("second-literal", &[3], "b\"AAAA\" b\"AAAAAAAA\" d"),
     ("rest-read-on", &[0], "b\"AAAA = 1\" \"x\ny"),
+];
+
+/// Runs that `rfc3339::parse` takes.
+#[rustfmt::skip]
+pub const DATES: &[(&str, &str)] = &[
+    ("epoch", "1970-01-01T00:00:00Z"),
+    ("before-epoch", "1969-12-31T23:59:59.5Z"),
+    ("year-0", "0000-01-01T00:00:00Z"),
+    ("least", "0000-01-01T00:00:00+24:60"),
+    ("greatest", "9999-12-31T23:59:59.999999999-24:60"),
+    ("leap-day-0", "0000-02-29T00:00:00Z"),
+    ("leap-day-2000", "2000-02-29T00:00:00Z"),
+    ("leap-day-2024", "2024-02-29T00:00:00Z"),
+    ("hour-23", "2024-01-02T23:04:05Z"),
+    ("minute-59", "2024-01-02T03:59:05Z"),
+    ("second-59", "2024-01-02T03:04:59Z"),
+    ("fraction-one-digit", "2024-01-02T03:04:05.1Z"),
+    ("fraction-ten-digits", "2024-01-02T03:04:05.1234567899Z"),
+    ("fraction-ten-nines", "2024-01-02T03:04:05.9999999999Z"),
+    ("fraction-offset", "2024-01-02T03:04:05.5-01:30"),
+    ("offset-minus-0", "2024-01-02T03:04:05-00:00"),
+    // RFC 3339 has none of these.
+    ("hour-one-digit", "2024-01-02T3:04:05Z"),
+    ("offset-hour-24", "2024-01-02T03:04:05+24:00"),
+    ("offset-minute-60", "2024-01-02T03:04:05+00:60"),
+    ("offset-25-hours", "2024-01-02T03:04:05+24:60"),
+    ("offset-minus-25-hours", "2024-01-02T03:04:05-24:60"),
+];
+
+/// Runs that it refuses.
+#[rustfmt::skip]
+pub const NO_DATES: &[(&str, &str)] = &[
+    ("leap-day-1900", "1900-02-29T00:00:00Z"),
+    ("leap-day-2023", "2023-02-29T00:00:00Z"),
+    ("leap-day-2100", "2100-02-29T00:00:00Z"),
+    ("month-00", "2024-00-02T03:04:05Z"),
+    ("month-13", "2024-13-02T03:04:05Z"),
+    ("month-one-digit", "2024-1-02T03:04:05Z"),
+    ("day-00", "2024-01-00T03:04:05Z"),
+    ("day-32", "2024-01-32T03:04:05Z"),
+    ("day-31-of-april", "2024-04-31T03:04:05Z"),
+    ("day-one-digit", "2024-01-2T03:04:05Z"),
+    ("hour-24", "2024-01-02T24:00:00Z"),
+    ("hour-three-digits", "2024-01-02T003:04:05Z"),
+    ("minute-60", "2024-01-02T03:60:05Z"),
+    ("minute-one-digit", "2024-01-02T03:4:05Z"),
+    ("second-one-digit", "2024-01-02T03:04:5Z"),
+    ("second-61", "2024-01-02T03:04:61Z"),
+    ("fraction-without-digit", "2024-01-02T03:04:05.Z"),
+    ("without-zone", "2024-01-02T03:04:05"),
+    ("offset-without-colon", "2024-01-02T03:04:05+0000"),
+    ("offset-hour-alone", "2024-01-02T03:04:05+00"),
+    ("offset-hour-25", "2024-01-02T03:04:05+25:00"),
+    ("offset-minute-61", "2024-01-02T03:04:05+00:61"),
+    ("more-after-z", "2024-01-02T03:04:05Z0"),
+    ("more-after-offset", "2024-01-02T03:04:05+00:00Z"),
+    // RFC 3339 has these.
+    ("second-60", "2024-01-02T03:04:60Z"),
+    ("second-60-at-midnight", "2016-12-31T23:59:60Z"),
+    ("small-t", "2024-01-02t03:04:05Z"),
+    ("small-z", "2024-01-02T03:04:05z"),
+];
+
+/// Runs that are asked for their instants alone. No text has most of them.
+#[rustfmt::skip]
+pub const INSTANTS: &[(&str, &[u8])] = &[
+    ("second-before-epoch", b"1969-12-31T23:59:59Z"),
+    ("second-after-epoch", b"1970-01-01T00:00:01Z"),
+    ("year-9999", b"9999-12-31T23:59:59Z"),
+    ("fraction-eight-digits", b"2024-01-02T03:04:05.12345678Z"),
+    ("fraction-nine-digits", b"2024-01-02T03:04:05.123456789Z"),
+    ("fraction-one-nanosecond", b"2024-01-02T03:04:05.000000001Z"),
+    ("fraction-below-nanosecond", b"2024-01-02T03:04:05.0000000009Z"),
+    ("fraction-comma", b"2024-01-02T03:04:05,6Z"),
+    ("offset-plus-0", b"2024-01-02T03:04:05+00:00"),
+    ("offset-plus", b"2024-01-02T03:04:05+01:30"),
+    ("offset-minus", b"2024-01-02T03:04:05-01:30"),
+    ("offset-minus-hour-24", b"2024-01-02T03:04:05-24:00"),
+    ("offset-minus-minute-60", b"2024-01-02T03:04:05-00:60"),
+    ("empty-run", b""),
+    ("year-and-hyphen", b"2024-"),
+    ("blank-for-t", b"2024-01-02 03:04:05Z"),
+    ("blank-after", b"2024-01-02T03:04:05Z "),
+    ("newline-after", b"2024-01-02T03:04:05Z\n"),
+    ("ff-after", b"2024-01-02T03:04:05Z\xFF"),
+    ("ff-before", b"\xFF2024-01-02T03:04:05Z"),
+    ("ff-for-digit", b"2024-01-02T03:04:0\xFFZ"),
+    // U+0665, a digit five of two bytes.
+    ("arabic-digit", b"2024-01-02T03:04:0\xD9\xA5Z"),
 ];
 
 /// "f as the nearest f64 is multiplied by the unit divided by the scale, each

@@ -11,10 +11,10 @@ use lib.Signed.{_≤ℤ_}
 use Rattle.base.proofs.Tests.{and-left, and-right, by-cases, pick-case}
 use Rattle.rfc3339.specs.Grammar.{parseGrammar, isAt, isFullDate, isT, hourEnd, isPartialTime, secfracEnd, isOffset, isDateTime}
 use Rattle.rfc3339.specs.Instant.{localSeconds, epochSeconds, secondsOf, secfracDigits, secfracNanos, InRange}
-use Rattle.rfc3339.specs.Helpers.{unixSeconds}
+use Rattle.rfc3339.specs.Helpers.{offsetSize, unixSeconds}
 use Rattle.rfc3339.proofs.Days.{epoch-is}
 use Rattle.rfc3339.proofs.Nanos.{nanos-lt}
-use Rattle.rfc3339.proofs.Fields.{local-lt, offsetSize, offset-le, seconds-are}
+use Rattle.rfc3339.proofs.Fields.{local-lt, offset-le, seconds-are}
 use Rattle.rfc3339.proofs.Fractions.{fraction-digits, digits-are}
 
 -- ---- differences of numbers

@@ -9,7 +9,6 @@ use native.Mathlib.Omega.{arith}
 use borrow.Author.Tests.{ltb-true, eqb-true, eqb-false}
 use lib.Dec.{eqb}
 use lib.ListN.{take, getD}
-use Rattle.base.specs.Choice.{pick}
 use Rattle.base.specs.Bytes.{byte}
 use Rattle.base.proofs.Tests.{and-left, and-right, or-case, by-cases, pick-case}
 use Rattle.rfc3339.specs.Calendar.{monthLengths, monthLength, sumOf, daysOfYears, daysOfMonths, daysTo}
@@ -17,7 +16,7 @@ use Rattle.rfc3339.specs.Grammar.{parseGrammar, isAt, isPair, yearOf, mo
 use Rattle.rfc3339.specs.Grammar.{isHour, minuteOf, secondOf, isMinute, isSecond, isPartialTime, secfracEnd, offsetHourOf}
 use Rattle.rfc3339.specs.Grammar.{offsetMinuteOf, isOffsetHour, isOffsetMinute, hasSign, isNumoffset, isOffset}
 use Rattle.rfc3339.specs.Instant.{localSeconds, epochSeconds, offsetSeconds, secondsOf}
-use Rattle.rfc3339.specs.Helpers.{hourAt, unixSeconds}
+use Rattle.rfc3339.specs.Helpers.{hourAt, offsetSize, unixSeconds}
 use Rattle.rfc3339.proofs.Days.{years-closed}
 use Rattle.rfc3339.proofs.Pairs.{pair-low, pair-high, pair-or-next}
 use Rattle.rfc3339.proofs.Times.{hour-is, hour-test, second-test}
@@ -89,10 +88,6 @@ numoffset s e =
       hour = pair-high 0 24 s (z + 1) (sym (pair-or-next 23 s (z + 1)) ∙ and-right (hasSign s) _ i);
       minute = pair-high 0 60 s (z + 4) (sym (pair-or-next 59 s (z + 4)) ∙ and-right (isAt 58 s (z + 3)) _ (and-right h _ f));
     }
-
--- the seconds of the offset, whatever its sign
-abbrev pub offsetSize : List ℕ → ℕ
-offsetSize s = pick (isAt 90 s (secfracEnd s)) 0 (offsetHourOf s * 3600 + offsetMinuteOf s * 60)
 
 module _ (s : List ℕ) (e : isOffset parseGrammar s ≡ true) where
   abbrev mark : ℕ

@@ -14,11 +14,11 @@ use Rattle.rfc3339.specs.Calendar.{daysTo}
 use Rattle.rfc3339.specs.Grammar.{parseGrammar, yearOf, monthOf, dayOf, isFullDate, isT, hourEnd, hourOf, minuteOf, secondOf}
 use Rattle.rfc3339.specs.Grammar.{isPartialTime, secfracEnd, isOffset, isDateTime}
 use Rattle.rfc3339.specs.Instant.{localSeconds, secfracNanos, dateBy, dateOf}
-use Rattle.rfc3339.specs.Helpers.{SecondsFit, foundIf, fullDate, partialTime, timeOffset, unixSeconds}
+use Rattle.rfc3339.specs.Helpers.{SecondsFit, foundIf, fullDate, partialTime, offsetSize, timeOffset, unixSeconds}
 use Rattle.rfc3339.specs.declared.parse.Instant.the-variants as instant
 use Rattle.rfc3339.specs.declared.rules.Field.the-variants as field
 use Rattle.rfc3339.proofs.Fractions.{digits-are}
-use Rattle.rfc3339.proofs.Fields.{local-lt, offsetSize, offset-le, seconds-are}
+use Rattle.rfc3339.proofs.Fields.{local-lt, offset-le, seconds-are}
 
 -- ---- what a rule finds
 found : (ok : Bool) (n m : ℕ) → field.Number m ≡ foundIf ok n → (ok ≡ true) × (m ≡ n)

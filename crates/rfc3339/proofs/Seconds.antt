@@ -24,10 +24,10 @@ difference-less a b c = +ℤ-assoc (pos a) (negℤ (pos b)) (negℤ (pos c)) ∙
 
 -- as the code has it: both numbers are i64
 module _ (a b : ℕ) (h : a < 0x8000000000000000) (k : b < 0x8000000000000000) where
-  pub minus-fits : SFits w64 (toZ w64 a -ℤ pos b)
+  minus-fits : SFits w64 (toZ w64 a -ℤ pos b)
   minus-fits = rw (signed a h) (difference-fits a b h k)
 
-  pub minus-is : toZ w64 (ofZ w64 (toZ w64 a -ℤ pos b)) ≡ pos a -ℤ pos b
+  minus-is : toZ w64 (ofZ w64 (toZ w64 a -ℤ pos b)) ≡ pos a -ℤ pos b
   minus-is = rw (toZ-ofZ w64 (toZ w64 a -ℤ pos b) minus-fits, signed a h)
 
 module _ (local offset : ℕ) (f : SecondsFit local offset) where

@@ -66,10 +66,12 @@ unfoldable pub partialTime : List ℕ → Field
 partialTime s = foundIf (isPartialTime parseGrammar s) ((hourOf s * hourSeconds + minuteOf s * minuteSeconds) + secondOf s)
 
 -- the seconds of the offset, whatever its sign
+abbrev pub offsetSize : List ℕ → ℕ
+offsetSize s = pick (isAt (code "Z") s (secfracEnd s)) 0 (offsetHourOf s * hourSeconds + offsetMinuteOf s * minuteSeconds)
+
+-- these seconds
 unfoldable pub timeOffset : List ℕ → Field
-timeOffset s =
-    foundIf (isOffset parseGrammar s)
-    (pick (isAt (code "Z") s (secfracEnd s)) 0 (offsetHourOf s * hourSeconds + offsetMinuteOf s * minuteSeconds))
+timeOffset s = foundIf (isOffset parseGrammar s) (offsetSize s)
 
 -- the seconds from 1970-01-01T00:00:00Z to a local time, west of UTC or not
 unfoldable pub unixSeconds : ℕ → ℕ → Bool → ℤ

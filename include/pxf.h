@@ -7,9 +7,10 @@
  * examples/tokens.c lists them.
  *
  * Each function returns 0 where the call is accepted, else the number of its refusal, PXF_REFUSED_... below. The checks go in a fixed order, and the
- * first that fails is the answer: 1, 2, 3, 4, 5, 6 for a text, 8, 9, 10 for the writer of token files, 7, 8, 4 for their reader. A refused call
- * writes to no buffer. An accepted one leaves a buffer past its result as it was. `answer` is no buffer: every call sets all six of its numbers, to 0
- * where the call gives none. A length counts elements. Buffers must not overlap, and a pointer must not be null, even where its length is 0.
+ * first that fails is the answer: 1, 2, 3, 4, 5, 6 for a text, 8, 9, 10 for the writer of token files, 7, 8, 4 for their reader, 11, 12
+ * for suggestions. A refused call writes to no buffer. An accepted one leaves a buffer past its result as it was. `answer` is no buffer: every call
+ * sets all six of its numbers, to 0 where the call gives none. A length counts elements. Buffers must not overlap, and a pointer must not be null,
+ * even where its length is 0.
  *
  * A String's value lies in the string buffer; every other value, and every precision, lies in the text.
  */
@@ -33,6 +34,10 @@ extern "C" {
 #define PXF_MAX_MESSAGE_SIZE 67108864
 #define PXF_MAX_BYTES_LITERAL_LENGTH 67108864
 
+/* The longest run for suggestions, and the numbers of a list that always suffices for them. */
+#define PXF_MAX_MISTYPED_RUN 64
+#define PXF_MAX_SUGGESTION_NUMBERS 18240
+
 /* A token is twelve numbers. */
 #define PXF_TOKEN_WIDTH 12
 #define PXF_TOKEN_KIND 0
@@ -55,6 +60,12 @@ extern "C" {
 #define PXF_REPORT_OFFSET 2
 #define PXF_REPORT_LINE 3
 #define PXF_REPORT_COLUMN 4
+
+/* A suggestion is three numbers. */
+#define PXF_SUGGESTION_WIDTH 3
+#define PXF_SUGGESTION_NANOSECONDS 0 /* of the Duration that the run then is */
+#define PXF_SUGGESTION_OFFSET 1      /* of the byte in the run */
+#define PXF_SUGGESTION_BYTE 2        /* that is to stand there, 32 to 126 */
 
 /* The kinds of a token. */
 #define PXF_KIND_EOF 0
@@ -118,6 +129,8 @@ extern "C" {
 #define PXF_REFUSED_BAD_RECORDS 8       /* token records break the record rules */
 #define PXF_REFUSED_COLUMN_TOO_LARGE 9  /* a column above 65,535 is to go into a token file */
 #define PXF_REFUSED_OUT_SHORT 10        /* the buffer for a token file is too short */
+#define PXF_REFUSED_BAD_RUN 11          /* the run for suggestions is empty, exceeds PXF_MAX_MISTYPED_RUN bytes or isn't UTF-8 */
+#define PXF_REFUSED_LIST_SHORT 12       /* the list of suggestions is shorter than the result needs */
 
 /* Gives the number of the interface that the archive has. */
 uint32_t pxf_interface(void);
@@ -181,6 +194,19 @@ uint8_t pxf_timestamp(
     const uint8_t *run,    /* the run, any bytes: a Timestamp's are those from its start to its end */
     size_t run_len,
     int64_t answer[6]);    /* 1, seconds, nanoseconds, 0, 0, 0; where it is no date 0, 0, 0, 0, 0, 0 */
+
+/* Suggests repairs of a mistyped duration, `4h` for `4j` say: lists every replacement of one byte of the run by another printable ASCII byte after
+ * which the run, read as a whole strict text, is one Duration and nothing else but blanks. Least nanoseconds come first, then the earliest offset, then
+ * the lowest byte. An empty list says that there is no such replacement. A good duration has suggestions too.
+ *
+ * A list of 285 numbers for each byte of the run suffices for it, and PXF_MAX_SUGGESTION_NUMBERS for any run; with these the replacements are tried
+ * once, else they are counted first, which takes as long again. */
+uint8_t pxf_suggest_durations(
+    const uint8_t *run,    /* the run, any bytes; refusal 11 where it is no UTF-8 */
+    size_t run_len,        /* refusal 11 where it is 0 or above PXF_MAX_MISTYPED_RUN */
+    int64_t *list,         /* gets the suggestions, in the order above */
+    size_t list_len,       /* refusal 12 below three a suggestion */
+    int64_t answer[6]);    /* suggestions, 0, 0, 0, 0, 0 */
 
 /* Writes a token file: 9 + 16 * count bytes. */
 uint8_t pxf_write_token_file(

@@ -100,11 +100,12 @@ cat >"$work/calls.c" <<'END'
 #include <string.h>
 
 /* All that is lent to be written to, and the same before a call. */
-static struct { int64_t tokens[40], reports[12]; uint8_t strings[4], file[60]; } lent, before;
+static struct { int64_t tokens[40], reports[12], list[570]; uint8_t strings[4], file[60]; } lent, before;
 static int64_t records[40], answer[6];
 static uint8_t file[60], large[PXF_MAX_MESSAGE_SIZE + 1];
 static const uint8_t text[] = {'a', ' ', '"', '\\', 'q'}, no_text[] = {'a', 0xff};
 static uint8_t run[] = "1969-12-31T23:59:59.5Z";
+static const uint8_t mistyped[PXF_MAX_MISTYPED_RUN + 1] = {'4', 'j'}, no_run[] = {'4', 0xff};
 
 static void lend(void) {
     memset(answer, 77, sizeof answer);
@@ -122,6 +123,10 @@ static int answers(int64_t a, int64_t b, int64_t c, int64_t d, int64_t e, int64_
 #define READ_TEXT(text, length, tokens_len, strings_len, reports_len) \
     pxf_read_text(text, length, PXF_TOLERANT, 9, lent.tokens, tokens_len, lent.strings, strings_len, lent.reports, reports_len, answer)
 #define TIMESTAMP(length) pxf_timestamp(run, length, answer)
+#define SUGGEST(run, length, list_len) pxf_suggest_durations(run, length, lent.list, list_len, answer)
+#define SUGGESTED(index, nanoseconds, offset, byte) HOLDS(lent.list[PXF_SUGGESTION_WIDTH * (index) + PXF_SUGGESTION_NANOSECONDS] == (nanoseconds)); \
+    HOLDS(lent.list[PXF_SUGGESTION_WIDTH * (index) + PXF_SUGGESTION_OFFSET] == (offset)); \
+    HOLDS(lent.list[PXF_SUGGESTION_WIDTH * (index) + PXF_SUGGESTION_BYTE] == (byte))
 #define READ_TOKEN(column) pxf_read_token(text, 5, 1, 1, column, PXF_TOLERANT, 9, lent.tokens, 12, lent.strings, 2, lent.reports, 10, answer)
 
 int main(void) {
@@ -155,6 +160,22 @@ int main(void) {
     ACCEPTED(TIMESTAMP(22), 0, 0, 0, 0, 0, 0);
     ACCEPTED(READ_TEXT(run, 22, 24, 0, 0), 2, 0, 0, 0, 0, 0);
     HOLDS(lent.tokens[PXF_TOKEN_KIND] == PXF_KIND_ILLEGAL && lent.tokens[PXF_TOKEN_REASON] == PXF_REASON_BAD_TIMESTAMP);
+
+    /* 4s, 4m and 4h for 4j, with an exact list and with one that suffices for any run of two bytes; nothing for 4, nor for 4j and 62 zero bytes. */
+    for (size_t list_len = 9; list_len <= 570; list_len += 561) {
+        ACCEPTED(SUGGEST(mistyped, 2, list_len), 3, 0, 0, 0, 0, 0);
+        SUGGESTED(0, 4000000000, 1, 's');
+        SUGGESTED(1, 240000000000, 1, 'm');
+        SUGGESTED(2, 14400000000000, 1, 'h');
+        HOLDS(memcmp(lent.list + 9, before.list + 9, sizeof lent.list - 9 * sizeof *lent.list) == 0);
+    }
+    ACCEPTED(SUGGEST(mistyped, 1, 0), 0, 0, 0, 0, 0, 0);
+    HOLDS(memcmp(&lent, &before, sizeof lent) == 0);
+    ACCEPTED(SUGGEST(mistyped, PXF_MAX_MISTYPED_RUN, 0), 0, 0, 0, 0, 0, 0);
+    REFUSED(PXF_REFUSED_BAD_RUN, 0, SUGGEST(mistyped, 0, 570));
+    REFUSED(PXF_REFUSED_BAD_RUN, 0, SUGGEST(mistyped, PXF_MAX_MISTYPED_RUN + 1, 570));
+    REFUSED(PXF_REFUSED_BAD_RUN, 0, SUGGEST(no_run, 2, 570));
+    REFUSED(PXF_REFUSED_LIST_SHORT, 0, SUGGEST(mistyped, 2, 8));
 
     ACCEPTED(pxf_write_token_file(records, 36, 3, lent.file, 57, answer), 57, 0, 0, 0, 0, 0);
     memcpy(file, lent.file, sizeof file);

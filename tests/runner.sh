@@ -1,6 +1,6 @@
 #!/usr/bin/env bash
-# Runs conformance/run on the built programs target/bin/cases and target/bin/token_file_cases, which have to pass, and on readers that are wrong
-# in one way each. What it prints is held, byte for byte, to lines that are worked out here from the lists, which may grow.
+# Runs conformance/run on the built programs cases, token_file_cases and suggestion_cases of target/bin, which have to pass, and on readers that are
+# wrong in one way each. What it prints is held, byte for byte, to lines that are worked out here from the lists, which may grow.
 # The last line is `N passed, M failed`; the status is 1 where M is not 0.
 set -euo pipefail
 root=$(cd "$(dirname "$0")/.." && pwd)
@@ -9,8 +9,11 @@ questions=$root/conformance/questions.txt
 list=$root/conformance/cases.txt
 file_questions=$root/conformance/token_files.txt
 file_list=$root/conformance/token_files_answers.txt
+suggestion_questions=$root/conformance/suggestions.txt
+suggestion_list=$root/conformance/suggestions_answers.txt
 cases=$(grep -c '^case ' "$list")
 files=$(grep -c '' "$file_list")
+suggestions=$(grep -c '' "$suggestion_list")
 . "$root/tests/holds.sh"
 cd "$work"
 
@@ -31,16 +34,18 @@ differs() {
     says "$@" "$((cases - 1)) passed, 1 failed"
 }
 
-# line_differs NUMBER LINE..: the same of a line on token files.
+# line_differs QUESTIONS NUMBER LINE..: the same of a line of these questions.
 line_differs() {
-    says "line $1: differs"
-    sed -n "$1s/^/ /p" "$file_questions"
-    shift
-    says "$@" "$((files - 1)) passed, 1 failed"
+    local all
+    all=$(grep -c '' "$1")
+    says "line $2: differs"
+    sed -n "$2s/^/ /p" "$1"
+    shift 2
+    says "$@" "$((all - 1)) passed, 1 failed"
 }
 
 # what the readers, which are scripts, are made of
-export CASES=$root/target/bin/cases TOKEN_FILES=$root/target/bin/token_file_cases
+export CASES=$root/target/bin/cases TOKEN_FILES=$root/target/bin/token_file_cases SUGGESTIONS=$root/target/bin/suggestion_cases
 export ONE=miniature-2-strict
 last=$(sed -n 's/^case //p' "$list" | tail -n 1)
 # the one token of its answer that is a Float
@@ -132,8 +137,10 @@ holds 'no command' 2 says_only "$run"
 holds 'a command without words' 2 says_only "$run" ''
 holds 'an open quote' 2 says_only "$run" "'"
 holds 'no command for token files' 2 says_only "$run" --token-files
+holds 'no command for suggestions' 2 says_only "$run" --suggestions
+holds 'two options' 2 says_only "$run" --token-files --suggestions ./reader
 holds 'an option that is none' 2 says_only "$run" --strict ./reader
-says 'usage: conformance/run [--token-files] COMMAND [ARGUMENT ..]' >expected
+says 'usage: conformance/run [--token-files | --suggestions] COMMAND [ARGUMENT ..]' >expected
 holds '--help' 0 start_of "$run" --help
 
 says "$files passed, 0 failed" >expected
@@ -148,10 +155,10 @@ holds 'token files: an echo' 1 "$run" --token-files cat
 holds 'token files: no answer' 1 "$run" --token-files true
 
 second=$(sed -n 2p "$file_list")
-line_differs 2 "-$second" "+1$second" >expected
+line_differs "$file_questions" 2 "-$second" "+1$second" >expected
 reader '"$TOKEN_FILES" | sed "2s/^/1/"'
 holds 'token files: one number that differs' 1 "$run" --token-files ./reader
-line_differs 2 "-$second" "+\\xff$second\\x0d" >expected
+line_differs "$file_questions" 2 "-$second" "+\\xff$second\\x0d" >expected
 reader '"$TOKEN_FILES" | LC_ALL=C sed "2s/.*/\\xff&\\r/"'
 holds 'token files: bytes that are no text' 1 "$run" --token-files ./reader
 
@@ -166,5 +173,21 @@ holds 'token files: a line that nobody asked for' 1 "$run" --token-files ./reade
 says 'the command ended with status 3' "$files passed, 1 failed" >expected
 reader '"$TOKEN_FILES"; exit 3'
 holds 'token files: status 3' 1 "$run" --token-files ./reader
+
+says "$suggestions passed, 0 failed" >expected
+reader '"$SUGGESTIONS"'
+holds 'suggestions: our own program' 0 "$run" --suggestions ./reader
+
+# The call on an empty run with a slice of four numbers is refused; that on `-4j` with a slice of nine lists times below 0, least first.
+LINE=$(sed -n '/^4 $/=' "$suggestion_questions")
+line_differs "$suggestion_questions" "$LINE" '-11 0 77 77 77 77' '+11 0 0 0 0 0' >expected
+export LINE
+reader '"$SUGGESTIONS" | sed "${LINE}s/ 77/ 0/g"'
+holds 'suggestions: a refused call that writes' 1 "$run" --suggestions ./reader
+LINE=$(sed -n '/^9 2d346a$/=' "$suggestion_questions")
+line_differs "$suggestion_questions" "$LINE" \
+    '-0 3 -14400000000000 2 104 -240000000000 2 109 -4000000000 2 115' '+0 3 -4000000000 2 115 -240000000000 2 109 -14400000000000 2 104' >expected
+reader '"$SUGGESTIONS" | awk "NR == $LINE { print \$1, \$2, \$9, \$10, \$11, \$6, \$7, \$8, \$3, \$4, \$5; next } { print }"'
+holds 'suggestions: least first without the signs' 1 "$run" --suggestions ./reader
 
 tally

@@ -1,5 +1,6 @@
-//! The calls of the C interface on a text, and on a timestamp's run, each with
-//! what it has to leave behind: its number, its answer, all of its buffers.
+//! The calls of the C interface on a text, on a timestamp's run and on a
+//! mistyped duration's, each with what it has to leave behind: its number, its
+//! answer, all of its buffers.
 
 use std::fmt;
 
@@ -7,6 +8,7 @@ use crate::ffi::{self, Buffers};
 use crate::notation::{escaped, joined};
 use crate::records::{self, numbers, stepped};
 use crate::records::{Lent, Mode, Reading, Refusal, FIRST, RECORD};
+use crate::suggestion::{self, Entry, ENTRY, NUMBERS_A_BYTE};
 use crate::timestamp;
 use crate::token::Position;
 
@@ -106,6 +108,67 @@ pub fn compare_call(text: &[u8], call: Call) -> Result<u64, Box<Difference>> {
         }
     }
     Ok(rooms.len() as u64)
+}
+
+/// All that the call for suggestions leaves behind.
+#[derive(PartialEq, Eq)]
+struct Suggested {
+    number: u8,
+    answer: [i64; 6],
+    list: Vec<i64>,
+}
+
+/// Such a call whose outcome is not the expected one.
+pub struct SuggestedDifference {
+    given: Suggested,
+    expected: Suggested,
+}
+
+/// Makes the call for suggestions with several lengths of the list slice.
+/// Gives how many there were, or the first that differs.
+pub fn compare_suggestions(run: &[u8]) -> Result<u64, Box<SuggestedDifference>> {
+    let from_rust = suggestion::list(run);
+    let rooms = list_rooms(run, &from_rust);
+    for &room in &rooms {
+        let (number, count, list) = suggestion::laid(&from_rust, room, Buffers::UNTOUCHED);
+        let expected = Suggested {
+            number,
+            answer: [count as i64, 0, 0, 0, 0, 0],
+            list,
+        };
+        let given = suggested(run, room);
+        if given != expected {
+            return Err(Box::new(SuggestedDifference { given, expected }));
+        }
+    }
+    Ok(rooms.len() as u64)
+}
+
+/// The lengths of list slices to try: exact, longer, none, one short; and that
+/// which suffices for any run of the length, so that nothing is counted first,
+/// and one less.
+fn list_rooms(run: &[u8], from_rust: &Result<Vec<Entry>, u8>) -> Vec<usize> {
+    let mut rooms = vec![0, 4];
+    if let Ok(entries) = from_rust {
+        let exact = ENTRY * entries.len();
+        let any = NUMBERS_A_BYTE * run.len();
+        rooms.extend([exact.saturating_sub(1), exact, exact + 4, any - 1, any]);
+    }
+    rooms.sort();
+    rooms.dedup();
+    rooms
+}
+
+/// Calls the proved library.
+fn suggested(run: &[u8], room: usize) -> Suggested {
+    let mut list = vec![Buffers::UNTOUCHED; room];
+    let mut answer = [Buffers::UNTOUCHED; 6];
+    let number = ffi::suggest_durations(run, &mut list, &mut answer);
+    Suggested {
+        number,
+        answer,
+        list,
+    }
 }
 
 /// A number with this added is untrue, and true again where it is cut to 32
@@ -292,6 +355,27 @@ impl fmt::Display for Outcome {
         writeln!(f, "    strings {}", escaped(&self.buffers.strings))?;
         for report in self.buffers.reports.chunks(5) {
             writeln!(f, "    report {}", shown(report))?;
+        }
+        Ok(())
+    }
+}
+
+impl fmt::Display for SuggestedDifference {
+    fn fmt(&self, f: &mut fmt::Formatter<'_>) -> fmt::Result {
+        writeln!(f, "  Suggestions")?;
+        writeln!(f, "  lent: {} numbers", self.expected.list.len())?;
+        write!(f, "  proved: {}", self.given)?;
+        write!(f, "  expected: {}", self.expected)
+    }
+}
+
+/// A slice may be long: the entries that were not touched at all are left out.
+impl fmt::Display for Suggested {
+    fn fmt(&self, f: &mut fmt::Formatter<'_>) -> fmt::Result {
+        writeln!(f, "{}, answer {}", self.number, shown(&self.answer))?;
+        let is_touched = |entry: &&[i64]| entry.iter().any(|&number| number != Buffers::UNTOUCHED);
+        for entry in self.list.chunks(ENTRY).filter(is_touched) {
+            writeln!(f, "    entry {}", shown(entry))?;
         }
         Ok(())
     }

@@ -76,6 +76,13 @@ mod pxf {
             answer: *mut i64,
         ) -> u8;
         fn pxf_timestamp(run: *const u8, run_len: usize, answer: *mut i64) -> u8;
+        fn pxf_suggest_durations(
+            run: *const u8,
+            run_len: usize,
+            list: *mut i64,
+            list_len: usize,
+            answer: *mut i64,
+        ) -> u8;
     }
 
     /// The buffers that a call on a text is lent.
@@ -178,6 +185,21 @@ mod pxf {
     pub fn timestamp(run: &[u8], answer: &mut [i64; 6]) -> u8 {
         // SAFETY: the function reads `run`, and writes the six numbers.
         unsafe { pxf_timestamp(run.as_ptr(), run.len(), answer.as_mut_ptr()) }
+    }
+
+    /// 0 or the refusal's number; `answer` gets the count of entries.
+    pub fn suggest_durations(run: &[u8], list: &mut [i64], answer: &mut [i64; 6]) -> u8 {
+        // SAFETY: the function reads `run`, and writes within `list` and the
+        // six numbers of `answer`.
+        unsafe {
+            pxf_suggest_durations(
+                run.as_ptr(),
+                run.len(),
+                list.as_mut_ptr(),
+                list.len(),
+                answer.as_mut_ptr(),
+            )
+        }
     }
 
     /// 0 or the refusal's number; `answer` gets the bytes written.

@@ -22,6 +22,7 @@ pub mod random;
 pub mod records;
 pub mod shrink;
 mod stand_ins;
+pub mod suggestion;
 pub mod tally;
 pub mod texts;
 pub mod timestamp;

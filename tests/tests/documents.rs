@@ -1,9 +1,10 @@
-//! Holds the documents to the conformance list that they speak of.
+//! Holds the documents to the lists that they speak of.
 
 use std::collections::BTreeSet;
 use std::fs;
 
 use oracle::conformance::{cases, COUNT};
+use oracle::suggestion::vectors;
 
 #[test]
 fn each_case_that_a_document_names_is_in_the_list() {
@@ -23,10 +24,13 @@ fn each_case_that_a_document_names_is_in_the_list() {
 }
 
 #[test]
-fn the_count_of_cases_is_said() {
+fn the_counts_of_cases_and_of_vectors_are_said() {
     let (thousands, rest) = (COUNT / 1000, COUNT % 1000);
-    let said = format!("`cases.txt` has {thousands},{rest:03} cases");
-    assert!(read("conformance/README.md").contains(&said));
+    let cases = format!("`cases.txt` has {thousands},{rest:03} cases");
+    let suggestions = format!("`suggestions.txt` has {} questions", vectors::COUNT);
+    for said in [cases, suggestions] {
+        assert!(read("conformance/README.md").contains(&said), "{said}");
+    }
 }
 
 /// Small letters and digits with hyphens between, as the names of cases are.

@@ -5,6 +5,7 @@ use std::fs;
 
 use oracle::limits::{MAX_BYTES_LITERAL_LENGTH, MAX_MESSAGE_SIZE};
 use oracle::records::{RECORD, REPORT};
+use oracle::suggestion::{ENTRY, LONGEST, NUMBERS_A_BYTE};
 use oracle::token::TokenKind;
 
 /// A record's numbers, in document 01's order.
@@ -16,6 +17,9 @@ const RECORD_NAMES: [&str; RECORD] = [
 
 /// A report's numbers, likewise.
 const REPORT_NAMES: [&str; REPORT] = ["REASON", "DETAIL", "OFFSET", "LINE", "COLUMN"];
+
+/// A suggestion's numbers, in change request #102's order.
+const SUGGESTION_NAMES: [&str; ENTRY] = ["NANOSECONDS", "OFFSET", "BYTE"];
 
 #[test]
 fn the_kinds_are_the_rusts() {
@@ -54,7 +58,7 @@ fn the_kinds_are_the_rusts() {
 
 #[test]
 fn each_reason_and_each_refusal_has_one_name() {
-    for (prefix, last) in [("REASON_", 21), ("REFUSED_", 10)] {
+    for (prefix, last) in [("REASON_", 21), ("REFUSED_", 12)] {
         let mut numbers: Vec<usize> = group(prefix).into_values().collect();
         numbers.sort();
         assert!(numbers.iter().copied().eq(1..=last), "{prefix} {numbers:?}");
@@ -62,8 +66,12 @@ fn each_reason_and_each_refusal_has_one_name() {
 }
 
 #[test]
-fn the_numbers_of_a_record_and_of_a_report_stand_in_order() {
-    for (prefix, names) in [("TOKEN_", &RECORD_NAMES[..]), ("REPORT_", &REPORT_NAMES)] {
+fn the_numbers_of_a_record_a_report_and_a_suggestion_stand_in_order() {
+    for (prefix, names) in [
+        ("TOKEN_", &RECORD_NAMES[..]),
+        ("REPORT_", &REPORT_NAMES),
+        ("SUGGESTION_", &SUGGESTION_NAMES),
+    ] {
         let mut expected: BTreeMap<String, usize> =
             names.iter().map(|name| name.to_string()).zip(0..).collect();
         expected.insert("WIDTH".to_string(), names.len());
@@ -72,10 +80,12 @@ fn the_numbers_of_a_record_and_of_a_report_stand_in_order() {
 }
 
 #[test]
-fn the_limits_are_the_rusts() {
+fn the_limits_are_the_rusts_and_those_of_suggestions() {
     let limits = [
         ("MESSAGE_SIZE".to_string(), MAX_MESSAGE_SIZE),
         ("BYTES_LITERAL_LENGTH".to_string(), MAX_BYTES_LITERAL_LENGTH),
+        ("MISTYPED_RUN".to_string(), LONGEST),
+        ("SUGGESTION_NUMBERS".to_string(), NUMBERS_A_BYTE * LONGEST),
     ];
     assert_eq!(group("MAX_"), BTreeMap::from(limits));
 }

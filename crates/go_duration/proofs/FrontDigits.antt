@@ -10,7 +10,8 @@ use native.Mathlib.Omega.{arith}
 use lib.Dec.{ltb}
 use lib.ListN.{length, take, drop, drop-of-length-le}
 use lib.Seq.{drop-cons}
-use borrow.Author.Tests.{lt-ltb, le-ltb, ltb-true, ltb-false}
+use borrow.Author.Tests.{lt-ltb, ltb-true, ltb-false}
+use Rattle.base.specs.Choice.{pick}
 use Rattle.base.specs.Bytes.{byte}
 use Rattle.base.specs.Classes.{isDigit}
 use Rattle.base.specs.Runs.{run, reach}
@@ -54,43 +55,40 @@ read-end-at s i = ap (λ (n : ℕ). i + n) (sym (read-count (drop i s) ∙ count
 -- ---- the loop of `leading_int`: the digits from i on, after x, write the whole number
 pub record Reading (s : List ℕ) (x i : ℕ) : Type 0 where
   pub below : i ≤ length s
-  pub fits : x ≤ most
   pub ran : allOf (drop i s) x ≡ wholeOf s
   pub ends : reach inDigits s i ≡ wholeEnd s
 
 pub reading-first : (s : List ℕ) → Reading s 0 0
 unfolding wholeEnd
-reading-first s = record { below = zero-le; fits = zero-le; ran = whole-all s; ends = refl }
+reading-first s = record { below = zero-le; ran = whole-all s; ends = refl }
 
 module _ (s : List ℕ) (x i : ℕ) (g : Reading s x i) where
-  number-is : allOf (drop i s) x ≡ x → i ≡ wholeEnd s → whole.Number x i ≡ leadingInt s
-  unfolding leadingInt
-  number-is a e = rw (← g .ran, a, ← e, le-ltb most x (g .fits))
-
   -- at a byte that is no digit, and at the end
-  pub reading-stop : i < length s → isDigit (byte s i) ≡ false → whole.Number x i ≡ leadingInt s
-  unfolding allOf
-  reading-stop h e = number-is (rw (drop-cons s i 0 h, e)) (loop-stop inDigits s i (wholeEnd s) (g .ends) h e)
+  module _ (r : Whole) (q : r ≡ pick (ltb most x) whole.Over (whole.Number x i)) where
+    number-is : allOf (drop i s) x ≡ x → i ≡ wholeEnd s → r ≡ leadingInt s
+    unfolding leadingInt
+    number-is a e = q ∙ rw (← g .ran, a, ← e)
 
-  pub reading-end : length s ≤ i → whole.Number x i ≡ leadingInt s
-  unfolding allOf
-  reading-end h = number-is (rw (drop-of-length-le s h)) (loop-end inDigits s i (wholeEnd s) (g .ends) h)
+    pub reading-stop : i < length s → isDigit (byte s i) ≡ false → r ≡ leadingInt s
+    unfolding allOf
+    reading-stop h e = number-is (rw (drop-cons s i 0 h, e)) (loop-stop inDigits s i (wholeEnd s) (g .ends) h e)
 
-  -- at a digit: a number above 2^63 stays above it
+    pub reading-end : length s ≤ i → r ≡ leadingInt s
+    unfolding allOf
+    reading-end h = number-is (rw (drop-of-length-le s h)) (loop-end inDigits s i (wholeEnd s) (g .ends) h)
+
+  -- at a digit: a number above a tenth of 2^63 is above it with this digit, and stays above it
   module _ (h : i < length s) (e : isDigit (byte s i) ≡ true) where
     turned : allOf (drop (i + 1) s) (more x (byte s i)) ≡ wholeOf s
     unfolding allOf
     turned = rw add-one (rw (drop-cons s i 0 h, e) at (g .ran))
 
-    pub reading-over : most < more x (byte s i) → whole.Over ≡ leadingInt s
+    pub reading-over : 922337203685477580 < x → whole.Over ≡ leadingInt s
     unfolding leadingInt
     reading-over l = rw (lt-ltb most (wholeOf s) (omega (arith, turned, all-ge (drop (i + 1) s) (more x (byte s i)))))
 
-    pub reading-large : 922337203685477580 < x → whole.Over ≡ leadingInt s
-    reading-large l = reading-over (omega arith)
-
-    pub reading-more : more x (byte s i) ≤ most → Reading s (more x (byte s i)) (i + 1)
-    reading-more l = record { below = omega arith; fits = l; ran = turned; ends = loop-step inDigits s i (wholeEnd s) (g .ends) h e }
+    pub reading-more : Reading s (more x (byte s i)) (i + 1)
+    reading-more = record { below = omega arith; ran = turned; ends = loop-step inDigits s i (wholeEnd s) (g .ends) h e }
 
 -- ---- what its answer says
 module _ (s : List ℕ) where

@@ -4,7 +4,7 @@ use mathlib.Core.Path.{_≡_, refl, sym, ap, _∙_}
 use mathlib.Core.Bool.{true, false, _&&_}
 use mathlib.Core.List.{List, []}
 use Prim.Native.Nat.{ℕ, _+_, _-_, _*_, _/_, _≤_, _<_, zero-le}
-use native.Mathlib.Nat.{pos-of-ne-zero, le-div-iff-mul-le, div-lt-iff-lt-mul}
+use native.Mathlib.Nat.{pos-of-ne-zero, le-div-iff-mul-le, div-lt-iff-lt-mul, mul-le-mul}
 use native.Mathlib.Omega.{arith}
 use lib.Dec.{ltb, eqb}
 use lib.ListN.{length, take, drop}
@@ -32,6 +32,10 @@ use Rattle.go_duration.proofs.FrontDigits.{read-end-at, Told}
 pub product-le : (w u : ℕ) → 0 < u → w ≤ most / u → w * u ≤ most
 product-le w u U h = le-div-iff-mul-le U .0 h
 
+-- so many hours stay below 2^63
+pub small-le : (w u : ℕ) → w ≤ 2097151 → u ≤ 3600000000000 → w * u ≤ most
+small-le w u h k = omega (arith, mul-le-mul h k)
+
 -- the fraction is at most the unit, so a sum of it and a product of at most 2^63 fits
 pub digits-le : (d : Fraction) (u : ℕ) → ReadOf d → UnitNanos u → fracOf (accOf d) u ≤ u
 unfolding fractionNanos
@@ -46,14 +50,14 @@ module _ (w : ℕ) (a : Acc) (u e : ℕ) where
   unfolding nanosPart
   product-over z h = rw (ne-eqb u 0 z, lt-ltb most (w * u) (div-lt-iff-lt-mul (pos-of-ne-zero z) .0 h))
 
-  module _ (z : u ≡ 0 → ⊥) (h : w ≤ most / u) (x : ℕ) (q : x ≡ fracOf a u) where
+  module _ (z : u ≡ 0 → ⊥) (p : w * u ≤ most) (x : ℕ) (q : x ≡ fracOf a u) where
     pub sum-over : most < w * u + x → part.Bad ≡ nanosPart w a u e
     unfolding nanosPart
-    sum-over l = rw (← q, ne-eqb u 0 z, le-ltb most (w * u) (product-le w u (pos-of-ne-zero z) h), lt-ltb most (w * u + x) l)
+    sum-over l = rw (← q, ne-eqb u 0 z, le-ltb most (w * u) p, lt-ltb most (w * u + x) l)
 
     pub sum-value : w * u + x ≤ most → part.Value (w * u + x) e ≡ nanosPart w a u e
     unfolding nanosPart
-    sum-value l = rw (← q, ne-eqb u 0 z, le-ltb most (w * u) (product-le w u (pos-of-ne-zero z) h), le-ltb most (w * u + x) l)
+    sum-value l = rw (← q, ne-eqb u 0 z, le-ltb most (w * u) p, le-ltb most (w * u + x) l)
 
 module _ (s : List ℕ) where
   -- the unit that stands at the fraction's end

@@ -5,11 +5,17 @@ use crate::fraction::leading_fraction;
 ghost use mathlib.Core.Path.{_≡_};
 ghost use mathlib.Core.List.{[], _∷_};
 ghost use Prim.Native.Nat.{_≤_};
+ghost use lib.Dec.{ltb};
 ghost use lib.ListN.{length};
+ghost use Rattle.base.specs.Choice.{pick};
 ghost use Rattle.base.specs.Runs.{reach};
+ghost use Rattle.go_duration.specs.Fraction.{most};
 ghost use Rattle.go_duration.specs.Units.{unitOf};
 ghost use Rattle.go_duration.specs.Parse.{inUnit, partOf};
 ghost use Rattle.go_duration.specs.Stages.{accOf, ReadOf, leadingInt, fractionAt, nanosPart, unitPart};
+
+// So many of the largest unit, an hour, stay below 2^63: no division is needed to see that.
+const SMALL: u64 = 2097151;
 
 pub enum Part {
     // The part's nanoseconds, and how many bytes it has.
@@ -31,7 +37,17 @@ struct After {
     end: usize,
 }
 
-// Go's `leadingInt`: the digits at the front of `s`.
+// The number of `used` digits, unless it is above 2^63.
+fn whole_of(value: u64, used: usize) -> Whole
+    ensures { λ r. ⌜ r ≡ pick (ltb most value) Whole.Over (Whole.Number value used) ⌝ }
+{
+    if value > MOST {
+        return Whole::Over;
+    }
+    Whole::Number { value, used }
+}
+
+// Go's `leadingInt`: the digits at the front of `s`. A number above 2^63 is refused behind its last digit, and before one more digit could wrap it.
 pub fn leading_int(s: &[u8]) -> Whole
     ensures { λ r. ⌜ r ≡ leadingInt (now (s .entry)) ⌝ }
 {
@@ -40,18 +56,15 @@ pub fn leading_int(s: &[u8]) -> Whole
     while i < s.len() {
         let c = s[i];
         if !base::class::is_digit(c) {
-            return Whole::Number { value: x, used: i };
+            return whole_of(x, i);
         }
         if x > MOST / 10 {
             return Whole::Over;
         }
         x = x * 10 + ((c - b'0') as u64);
-        if x > MOST {
-            return Whole::Over;
-        }
         i += 1;
     }
-    Whole::Number { value: x, used: i }
+    whole_of(x, i)
 }
 
 // How many bytes the unit at the front of `s` has: up to the next digit or point.
@@ -137,8 +150,10 @@ fn nanos_part(value: u64, digits: Fraction, unit: u64, end: usize) -> Part
     if unit == 0 {
         return Part::Bad;
     }
-    if value > MOST / unit {
-        return Part::Bad;
+    if value > SMALL {
+        if value > MOST / unit {
+            return Part::Bad;
+        }
     }
     let nanos = value * unit + digits.nanos(unit);
     if nanos > MOST {

@@ -1,5 +1,6 @@
 pub mod Answers
 pub mod Interface
+pub mod Suggestions
 pub mod Texts
 pub mod Timestamps
 pub mod TokenFiles

@@ -1,7 +1,8 @@
-// The C interface of the token reader: each function calls one public call, returns document 01's number of its answer, and sets all six numbers
+// The C interface of the token reader: each function calls one public call, returns the documents' number of its answer, and sets all six numbers
 // of `answer`; but for `pxf_interface`, which gives the interface's own number.
 mod answer;
 pub mod interface;
+pub mod suggestions;
 pub mod texts;
 pub mod timestamps;
 pub mod token_files;

@@ -1,6 +1,6 @@
--- For `past_units` and the laws of all tokens: the pieces of a duration, one turn at a time; and that each run of this crate ends between
--- characters, since its tests are of ASCII bytes. Assumes nothing.
-use mathlib.Core.Path.{_≡_, refl, _∙_}
+-- For `letters_end`, `past_units` and the laws of all tokens: the pieces of a duration, one turn at a time, by cases on the byte's tests; and that each
+-- run of this crate ends between characters, since its tests are of ASCII bytes. Assumes nothing.
+use mathlib.Core.Path.{_≡_, refl, sym, _∙_}
 use mathlib.Core.Bool.{Bool, true, false, not, _&&_, _||_}
 use mathlib.Core.List.{List, _∷_}
 use Prim.Native.Nat.{ℕ, zero, suc, _+_, _≤_, _<_}
@@ -15,7 +15,8 @@ use Rattle.base.specs.Choice.{pick}
 use Rattle.base.specs.Bytes.{byte}
 use Rattle.base.specs.Classes.{isDigit, isLowerAlpha, isIdentStart, isIdentPart, isSpace}
 use Rattle.base.specs.Runs.{reach, past}
-use Rattle.base.proofs.Tests.{and-left, and-right, true-false, over, in-text}
+use Rattle.base.proofs.Tests.{and-left, and-right, true-false, inside, under, over, in-text, by-cases, failed, passed}
+use Rattle.base.proofs.Reaches.{reach-step, reach-stop, reach-end, reach-fails}
 use Rattle.base.proofs.Walks.{past-step, past-stop, past-end}
 use Rattle.token.specs.Helpers.{Flat}
 use Rattle.utf8.specs.Grammar.{charSize}
@@ -24,6 +25,7 @@ use Rattle.utf8.specs.Check.{isTail}
 use Rattle.utf8.proofs.Boundaries.{boundary-le, next-boundary, ascii-boundary, reach-boundary, stop-boundary}
 use Rattle.utf8.proofs.Concatenations.{ascii-no-tail}
 use Rattle.scan.specs.Run.{endsTimestamp, inRun, unitPiece}
+use Rattle.scan.specs.Helpers.{inLetters}
 use Rattle.scan.specs.declared.run.Run.the-variants as run
 use Rattle.scan.specs.declared.run.Run.{Run}
 use Rattle.scan.proofs.Flats.{flat-byte}
@@ -54,6 +56,53 @@ module _ (s : List ℕ) (i : ℕ) where
 
       pub piece-stop : micro s i ≡ false → past unitPiece s i ≡ i
       piece-stop e = past-stop unitPiece s i h (piece-at ∙ rw (f, e))
+
+-- ---- the run of digits and letters, by the tests of `letters_end`
+module _ (a : ℕ) where
+  pub low-none : (x : Bool) → x ≡ isDigit a → not x ≡ true → a < 97 → isDigit a || isLowerAlpha a ≡ false
+  unfolding isLowerAlpha
+  low-none x e f l = rw (failed x e f) (under 97 122 a l)
+
+  pub high-none : 122 < a → isDigit a || isLowerAlpha a ≡ false
+  unfolding isDigit isLowerAlpha
+  high-none l = rw (over 48 57 a (omega arith)) (over 97 122 a l)
+
+  pub low-one : (x : Bool) → x ≡ isDigit a → not x ≡ false → isDigit a || isLowerAlpha a ≡ true
+  low-one x e f = rw (passed x e f)
+
+  pub high-one : 97 ≤ a → a ≤ 122 → isDigit a || isLowerAlpha a ≡ true
+  unfolding isDigit isLowerAlpha
+  high-one l h = rw (over 48 57 a (omega arith)) (inside 97 122 a l h)
+
+-- the pieces from its start and from its end have the same end; n bounds the bytes that are left
+letters-past : (s : List ℕ) (n i : ℕ) → length s ≤ i + n → past unitPiece s (reach inLetters s i) ≡ past unitPiece s i
+letters-past s zero i h = rw (reach-end inLetters s i (omega arith))
+letters-past s (suc n) i h =
+    by-cases (ltb i (length s)) (λ p. by-cases (inLetters (byte s i) (byte s (i + 1)))
+    (λ q. let l = ltb-true i (length s) p in
+    rw (← reach-step inLetters s i l q) (letters-past s n (i + 1) (omega arith) ∙ one-turn s i l (rw q)))
+    (λ q. rw (reach-stop inLetters s i (ltb-true i (length s) p) q)))
+    (λ p. rw (reach-end inLetters s i (ltb-false i (length s) p)))
+
+-- the loop of `past_units` at i, which is behind letters
+pub record Behind (s : List ℕ) (at i : ℕ) : Type 0 where
+  pub same : past unitPiece s i ≡ past unitPiece s at
+  pub none : i < length s → isDigit (byte s i) || isLowerAlpha (byte s i) ≡ false
+
+pub behind : (s : List ℕ) (at i j : ℕ) → past unitPiece s i ≡ past unitPiece s at → j ≡ reach inLetters s i → Behind s at j
+behind s at i j p e = rw e (record { same = letters-past s (length s) i (omega arith) ∙ p; none = λ h. reach-fails inLetters s i h })
+
+-- a turn of the loop
+module _ (s : List ℕ) (at i : ℕ) (g : Behind s at i) (h : i < length s) where
+  pub point-turn : eqb (byte s i) 46 && isDigit (byte s (i + 1)) ≡ true → past unitPiece s (i + 1) ≡ past unitPiece s at
+  point-turn e = one-turn s i h (rw (g .none h) e) ∙ g .same
+
+  module _ (f : eqb (byte s i) 46 && isDigit (byte s (i + 1)) ≡ false) where
+    pub two-turn : micro s i ≡ true → past unitPiece s (i + 2) ≡ past unitPiece s at
+    two-turn e = micro-turn s i h (rw (g .none h) f) e ∙ g .same
+
+    pub none-turn : micro s i ≡ false → i ≡ past unitPiece s at
+    none-turn e = sym (piece-stop s i h (rw (g .none h) f) e) ∙ g .same
 
 -- ---- tests of ASCII bytes
 

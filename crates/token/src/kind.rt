@@ -2,7 +2,7 @@
 ghost use mathlib.Core.Path.{_≡_};
 ghost use lib.Dec.{eqb};
 ghost use Rattle.token.specs.Kind.{kindNumber, isEof, isString};
-ghost use Rattle.token.specs.Helpers.{isIllegal, isNewline, isComment, isBytes, onOneLine};
+ghost use Rattle.token.specs.Helpers.{isIllegal, isNewline, isComment, isBytes, isDuration, onOneLine};
 
 // The numbers of the kinds that are asked for by name.
 pub const EOF: usize = 0;
@@ -16,6 +16,8 @@ const COMMENT: usize = 3;
 const STRING: usize = 5;
 
 const BYTES: usize = 10;
+
+const DURATION: usize = 12;
 
 // The last number.
 pub const LAST: usize = 25;
@@ -67,7 +69,7 @@ impl TokenKind {
             TokenKind::Null => 9,
             TokenKind::Bytes => BYTES,
             TokenKind::Timestamp => 11,
-            TokenKind::Duration => 12,
+            TokenKind::Duration => DURATION,
             TokenKind::LBrace => 13,
             TokenKind::RBrace => 14,
             TokenKind::LBracket => 15,
@@ -124,6 +126,12 @@ impl TokenKind {
         ensures { λ r. ⌜ r ≡ isBytes self ⌝ }
     {
         self.has_number(BYTES)
+    }
+
+    pub fn is_duration(self) -> bool
+        ensures { λ r. ⌜ r ≡ isDuration self ⌝ }
+    {
+        self.has_number(DURATION)
     }
 
     // Whether its tokens have no newline, in any text.

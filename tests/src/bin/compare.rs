@@ -3,6 +3,7 @@
 //! that shows a difference is made as small as it can be.
 
 use std::collections::BTreeSet;
+use std::fmt::Display;
 use std::iter::StepBy;
 use std::ops::Range;
 use std::process::ExitCode;
@@ -11,7 +12,7 @@ use std::sync::Mutex;
 use std::time::Instant;
 use std::{slice, thread};
 
-use oracle::calls::{compare, compare_call, Call, Depth, Difference, Setting};
+use oracle::calls::{compare, compare_call, compare_suggestions, Call, Depth, Setting};
 use oracle::cases::DEFAULT_LIMIT;
 use oracle::conformance::{self, Asked};
 use oracle::grammar::{grown_text, grown_timestamps};
@@ -19,6 +20,7 @@ use oracle::limits::MAX_MESSAGE_SIZE;
 use oracle::notation::escaped;
 use oracle::random::Random;
 use oracle::shrink::shrink;
+use oracle::suggestion::is_run;
 use oracle::tally::Tally;
 use oracle::texts::{damage, TELLING, UTF8_BORDERS};
 use oracle::token::Position;
@@ -28,6 +30,11 @@ const WORKERS: usize = 2;
 const ENOUGH: usize = 20;
 const GROWN_TEXTS: usize = 200_000;
 const GROWN_TIMESTAMPS: usize = 100_000;
+/// Of the runs that the call for suggestions takes, all of so many bytes are
+/// tried, and of the longer ones one in so many: for each byte of a run, the
+/// Rust reads about 95 texts.
+const SHORT_RUN: usize = 2;
+const ONE_IN_RUNS: usize = 200;
 const LIMITS: [u64; 12] = [0, 1, 2, 3, 4, 5, 6, 7, 8, 9, DEFAULT_LIMIT, u64::MAX];
 
 fn main() -> ExitCode {
@@ -40,6 +47,7 @@ fn main() -> ExitCode {
             index,
             random: Random::new(random.number()),
             tally: Tally::default(),
+            runs: 0,
             failures: &failures,
         });
         thread::scope(|scope| {
@@ -73,6 +81,8 @@ struct Worker<'a> {
     index: usize,
     random: Random,
     tally: Tally,
+    /// How many longer runs there were that the call for suggestions takes.
+    runs: usize,
     failures: &'a Failures,
 }
 
@@ -91,6 +101,7 @@ impl Worker<'_> {
         for mode in [0, 1] {
             self.examine(text, Setting { mode, limit }, depth);
         }
+        self.examine_suggestions(text);
     }
 
     fn examine(&mut self, text: &[u8], setting: Setting, depth: Depth) {
@@ -107,16 +118,37 @@ impl Worker<'_> {
         }
     }
 
-    /// One call, on a text that is shown by a name.
-    fn examine_call(&mut self, name: &str, text: &[u8], call: Call) {
-        match compare_call(text, call) {
+    /// The call for suggestions, with the text as a mistyped duration's run.
+    fn examine_suggestions(&mut self, text: &[u8]) {
+        if self.failures.count.load(Ordering::Relaxed) >= ENOUGH {
+            return;
+        }
+        if text.len() > SHORT_RUN && is_run(text) {
+            self.runs += 1;
+            if !self.runs.is_multiple_of(ONE_IN_RUNS) {
+                return;
+            }
+        }
+        match compare_suggestions(text) {
+            Ok(compared) => self.tally.pass(compared),
+            Err(difference) => {
+                let shrunk = shrink(text, |text| compare_suggestions(text).err());
+                let (text, difference) = shrunk.unwrap_or((text.to_vec(), difference));
+                self.fail(escaped(&text), &difference);
+            }
+        }
+    }
+
+    /// What one call has shown, on a text that is shown by a name.
+    fn count(&mut self, name: &str, compared: Result<u64, impl Display>) {
+        match compared {
             Ok(compared) => self.tally.pass(compared),
             Err(difference) => self.fail(name.to_string(), &difference),
         }
     }
 
     /// Counts a text that differs; the same smallest one is shown once.
-    fn fail(&mut self, text: String, difference: &Difference) {
+    fn fail(&mut self, text: String, difference: &impl Display) {
         self.tally.fail();
         self.failures.count.fetch_add(1, Ordering::Relaxed);
         let mut shown = self.failures.shown.lock().expect("no worker panics");
@@ -142,7 +174,8 @@ fn conformance_list(worker: &mut Worker) {
             Asked::PlaceOf(offset) => Call::Place(offset),
             Asked::Instant => Call::Timestamp,
         };
-        worker.examine_call(&case.name, &case.text, call);
+        worker.count(&case.name, compare_call(&case.text, call));
+        worker.examine_suggestions(&case.text);
     }
 }
 
@@ -245,14 +278,16 @@ fn largest_text(worker: &mut Worker, name: &str, text: &[u8]) {
     let (mode, limit) = (0, DEFAULT_LIMIT);
     let setting = Setting { mode, limit };
     let end = Position::with_offset(1, MAX_MESSAGE_SIZE + 1, MAX_MESSAGE_SIZE);
+    let name = format!("{} bytes: {name}", text.len());
     for call in [
         Call::Text(setting),
         Call::Token(end, setting),
         Call::Place(MAX_MESSAGE_SIZE),
         Call::Place(MAX_MESSAGE_SIZE + 1),
     ] {
-        worker.examine_call(&format!("{} bytes: {name}", text.len()), text, call);
+        worker.count(&name, compare_call(text, call));
     }
+    worker.count(&name, compare_suggestions(text));
 }
 
 /// The sequence of so many of these elements that has this number.

@@ -1,5 +1,5 @@
--- `leading_int` is `leadingInt`: the digits from `i` on, after `x`, write the whole number. A number that one digit more takes above 2^63 stays
--- above it. Assumes nothing.
+-- `leading_int` is `leadingInt`: the digits from `i` on, after `x`, write the whole number. A number above a tenth of 2^63
+-- is above it with one digit more, and stays above it. Assumes nothing.
 use mathlib.Core.Path.{_≡_}
 use mathlib.Core.Bool.{true}
 use Prim.Native.Nat.{_-_}
@@ -9,7 +9,7 @@ use borrow.Author.Needs.{needs}
 use Rattle.base.specs.Bytes.{byte}
 use Rattle.base.specs.Classes.{isDigit}
 use Rattle.base.proofs.Tests.{failed, passed, digit-range}
-use Rattle.go_duration.proofs.FrontDigits.{Reading, reading-first, reading-stop, reading-end, reading-over, reading-large, reading-more}
+use Rattle.go_duration.proofs.FrontDigits.{Reading, reading-first, reading-stop, reading-end, reading-over, reading-more}
 use Rattle.go_duration.proofs.part.leading_int.Statement.{statement}
 use Rattle.go_duration.proofs.part.leading_int.Tie as tie
 
@@ -26,8 +26,8 @@ digit c = passed _ (c .before .is-digit .ensures) (c .if1 .left)
 
 pub leading-int-spec : {M : Type 1} → statement M
 leading-int-spec = tie.close (tie.spec
-    Inv-loop μ-loop (λ c. reading-first _) (λ c. search needs) (λ c κs. search needs) (λ c. search (reading-stop, failed))
-    (λ c. search (reading-large, passed)) (λ c. search needs)
+    Inv-loop μ-loop (λ c. reading-first _) (λ c. search needs) (λ c κs. search needs) (λ c κs. search needs) (λ c. search (reading-stop, failed))
+    (λ c. search (reading-over, passed)) (λ c. search needs)
     (λ c. omega (arith, digit-range _ (digit (c .before)))) (λ c. omega (arith, digit-range _ (digit (c .before))))
-    (λ c. omega (arith, digit-range _ (digit (c .before)))) (λ c. search (reading-over, passed)) (λ c. search needs) (λ c. search needs)
-    (λ c. search (reading-more, passed)) (λ c. search reading-end))
+    (λ c. omega (arith, digit-range _ (digit (c .before)))) (λ c. search needs) (λ c. search needs)
+    (λ c. search (reading-more, passed)) (λ c κs. search needs) (λ c. search reading-end))

@@ -1,0 +1,19 @@
+mod WrittenBytes
+mod FirstTokens
+mod SeenTexts
+mod PartCuts
+mod PieceRuns
+mod PieceWalks
+mod PieceFronts
+mod PieceParts
+mod SeenForms
+mod SeenRuns
+mod CutForms
+mod Cuts
+mod Seams
+mod Joins
+mod TriedBytes
+mod Fills
+mod Turns
+mod Claims
+pub mod Answers

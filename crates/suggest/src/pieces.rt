@@ -1,0 +1,165 @@
+// What is seen in a candidate's text by its pieces. A text can be cut behind a letter and before a digit; what stands before and after such cuts on both sides
+// of the byte that changes is seen once for all bytes that are tried there.
+ghost use mathlib.Core.Path.{_≡_};
+ghost use mathlib.Core.Bool.{_&&_};
+ghost use Prim.Native.Nat.{_≤_, _<_};
+ghost use lib.ListN.{length};
+ghost use Rattle.base.specs.Classes.{isDigit, isLowerAlpha};
+ghost use Rattle.suggest.specs.Helpers.{seenOf, isMinus, joinSeen, NoSign};
+ghost use Rattle.suggest.specs.Helpers.{CutBefore, CutAfter, HeadKept, TailKept, Front, Surrounds, Cut};
+use crate::seen::Seen;
+use crate::seen::see;
+use base::class::is_digit;
+use base::class::is_lower_alpha;
+use base::peek;
+use scan::run::Run;
+use scan::run::reach_run;
+
+// The least and the greatest number of nanoseconds.
+const LEAST: i64 = -9223372036854775808;
+
+const GREATEST: i64 = 9223372036854775807;
+
+// The piece of a text that changes, from `start` to `end`, and what is seen before and after it.
+pub struct Around {
+    pub start: usize,
+    pub end: usize,
+    pub head: Seen,
+    pub tail: Seen,
+}
+
+// Whether a text can be cut between two bytes.
+fn is_seam(a: u8, b: u8) -> bool
+    ensures { λ r. ⌜ r ≡ isLowerAlpha a && isDigit b ⌝ }
+{
+    is_lower_alpha(a) & is_digit(b)
+}
+
+// A cut before the byte at `i`, or 0 where there is none.
+fn cut_before(run: &[u8], i: usize) -> usize
+    requires { ⌜ i ≤ length (now run) ⌝ }
+    ensures { λ r. ⌜ CutBefore (now (run .entry)) i r ⌝ }
+{
+    let mut p = i;
+    while 1 < p {
+        p -= 1;
+        if is_seam(run[p - 1], run[p]) {
+            return p;
+        }
+    }
+    0
+}
+
+// A cut behind the byte at `i`, or the end where there is none.
+fn cut_after(run: &[u8], i: usize) -> usize
+    requires { ⌜ (i < length (now run)) × (length (now run) ≤ 64) ⌝ }
+    ensures { λ r. ⌜ CutAfter (now (run .entry)) i r ⌝ }
+{
+    let mut p = i + 2;
+    while p < run.len() {
+        if is_seam(run[p - 1], run[p]) {
+            return p;
+        }
+        p += 1;
+    }
+    run.len()
+}
+
+// Where the piece starts behind what is seen before a cut. A zero is not cut off: under its `-` the rest may be one more than without.
+fn start_behind(head: Seen, cut: usize) -> usize
+    ensures { λ r. ⌜ HeadKept head cut r ⌝ }
+{
+    let Seen::Duration(nanos) = head else {
+        return cut;
+    };
+    if nanos == 0 {
+        return 0;
+    }
+    cut
+}
+
+// Where the piece ends before what is seen behind a cut. What is no Duration by itself is not cut off.
+fn end_before(tail: Seen, cut: usize, len: usize) -> usize
+    ensures { λ r. ⌜ TailKept tail cut len r ⌝ }
+{
+    match tail {
+        Seen::Duration(_) => cut,
+        Seen::Other => len,
+    }
+}
+
+// What surrounds the byte at `i`.
+pub fn surroundings(run: &[u8], i: usize) -> Around
+    requires { ⌜ (i < length (now run)) × (length (now run) ≤ 64) ⌝ }
+    ensures { λ r. ⌜ Surrounds (now (run .entry)) i r ⌝ }
+{
+    let first = cut_before(run, i);
+    let last = cut_after(run, i);
+    let head = see(&run[..first]);
+    let tail = see(&run[last..]);
+    let start = start_behind(head, first);
+    let end = end_before(tail, last, run.len());
+    Around {
+        start,
+        end,
+        head,
+        tail,
+    }
+}
+
+// Whether the first byte that is no blank is `-`.
+fn is_minus(text: &[u8]) -> bool
+    ensures { λ r. ⌜ r ≡ isMinus (now (text .entry)) ⌝ }
+{
+    peek(text, reach_run(Run::Blank, text, 0)) == b'-'
+}
+
+// What is seen in two parts as one: the second, which has no sign of its own, is added under that of the first.
+fn join(neg: bool, a: Seen, b: Seen) -> Seen
+    requires { ⌜ NoSign b ⌝ }
+    ensures { λ r. ⌜ r ≡ joinSeen neg a b ⌝ }
+{
+    let Seen::Duration(x) = a else {
+        return Seen::Other;
+    };
+    let Seen::Duration(y) = b else {
+        return Seen::Other;
+    };
+    if neg {
+        if x < LEAST + y {
+            return Seen::Other;
+        }
+        return Seen::Duration(x - y);
+    }
+    if GREATEST - y < x {
+        return Seen::Other;
+    }
+    Seen::Duration(x + y)
+}
+
+// What is seen in a text, `head` being what is seen before `start`.
+fn see_front(text: &[u8], start: usize, head: Seen) -> Seen
+    requires { ⌜ Front (now text) start head ⌝ }
+    ensures { λ r. ⌜ r ≡ seenOf (now (text .entry)) ⌝ }
+{
+    let piece = see(&text[start..]);
+    if start == 0 {
+        return piece;
+    }
+    join(is_minus(text), head, piece)
+}
+
+// What is seen in a text with a piece of which the surroundings are known.
+pub fn see_around(text: &[u8], a: Around) -> Seen
+    requires { ⌜ Cut (now text) a ⌝ }
+    ensures { λ r. ⌜ r ≡ seenOf (now (text .entry)) ⌝ }
+{
+    let end = a.end;
+    let head = a.head;
+    let front = see_front(&text[..end], a.start, head);
+    if end == text.len() {
+        return front;
+    }
+    let tail = a.tail;
+    join(is_minus(text), front, tail)
+}

@@ -1,0 +1,5 @@
+mod Signs
+pub mod Orders
+mod Rooms
+pub mod Rows
+mod Halves

@@ -1,10 +1,9 @@
 -- For `surroundings`, `see_front`, `see_around` and `try_offset`: a text that is cut at an offset is its two parts, and what is known of the surroundings
 -- of a byte holds whatever byte stands there. By the laws of `Cuts`. Assumes nothing.
-use mathlib.Core.Path.{_≡_, refl, sym}
+use mathlib.Core.Path.{_≡_, refl, sym, _∙_}
 use mathlib.Core.Bool.{true}
-use mathlib.Core.Logic.{⊎-elim}
 use mathlib.Core.List.{List}
-use Prim.Native.Nat.{ℕ, _+_, _-_, _≤_, _<_}
+use Prim.Native.Nat.{ℕ, _-_, _≤_, _<_}
 use native.Mathlib.Nat.{add-zero}
 use native.Mathlib.Omega.{arith}
 use lib.Dec.{ltb}
@@ -16,7 +15,7 @@ use Rattle.base.specs.Classes.{isDigit, isLowerAlpha}
 use Rattle.base.proofs.Tests.{by-cases, in-text, no-digit}
 use borrow.Author.Tests.{ltb-true, ltb-false}
 use Rattle.suggest.specs.Helpers.{seenOf, isMinus, joinSeen, NoSign, Seam}
-use Rattle.suggest.specs.Helpers.{CutBefore, CutAfter, HeadKept, TailKept, HeadSeen, TailSeen, Front, Cut, Surrounds}
+use Rattle.suggest.specs.Helpers.{CutBefore, CutAfter, Front, Cut, Surrounds}
 use Rattle.suggest.specs.declared.pieces.Around.{Around}
 use Rattle.suggest.specs.declared.seen.Seen.{Seen}
 use Rattle.suggest.specs.declared.seen.Seen.the-variants.{Duration, Other}
@@ -39,11 +38,11 @@ module _ {text : List ℕ} {p : ℕ} (s : Seam text p) where
   digit = rw (getD-drop p text 0 0, add-zero) (s .digit)
 
   -- the text is seen by its two parts, but for a zero under `-`
-  pub seam-seen : (seenOf (take p text) ≡ Duration (pos 0) → seenOf (drop p text) ≡ Other → ⊥)
+  pub seam-seen : (isMinus text ≡ true → seenOf (take p text) ≡ Duration (pos 0) → ⊥)
       → joinSeen (isMinus text) (seenOf (take p text)) (seenOf (drop p text)) ≡ seenOf text
   seam-seen z =
-      let c = cut-seen (take p text) (drop p text) some letter digit (λ m. z) in
       let m = cut-minus (take p text) (drop p text) some letter digit in
+      let c = cut-seen (take p text) (drop p text) some letter digit (λ n e o. z (rw (take-append-drop p text) at (m ∙ n)) e) in
       sym (rw (take-append-drop p text) at (rw (← m) at c))
 
   -- the second part has no sign
@@ -73,7 +72,6 @@ front-cut {text} {a} c =
               digit = rw (getD-take (a .end) text (a .start) 0 o) (s .digit);
             };
             known = rw (take-take (a .start) (a .end) text (omega arith)) (b .known);
-            some = b .some;
           };
     }
 
@@ -99,7 +97,6 @@ cut-set {run} {i} {a} b w =
           record {
             seam = seam-set i b (λ e. omega arith) (λ e. omega arith) (d .seam);
             known = rw (take-set-le (a .start) run i b (omega arith)) (d .known);
-            some = d .some;
           };
       behind = λ h.
           let g : a .end < length run = rw length-set at h in
@@ -108,34 +105,22 @@ cut-set {run} {i} {a} b w =
           record {
             seam = seam-set i b (λ e. omega arith) (λ e. omega arith) (d .seam);
             known = rw (drop-set-lt (a .end) run i b (omega arith)) (d .known);
-            some = d .some;
           };
     }
 
 -- what is seen before and behind the cuts round a byte
-module _ {run : List ℕ} {i first last start end : ℕ} {head tail : Seen} (h : i < length run) (f : CutBefore run i first) (l : CutAfter run i last)
-    (p : head ≡ seenOf (take first run)) (q : tail ≡ seenOf (drop last run)) (u : HeadKept head first start) (v : TailKept tail last (length run) end) where
-  starts : 0 < start → (start < i) × HeadSeen run start head
-  starts k =
-      ⊎-elim (λ e. absurd (omega arith))
-      (λ e. let c = f (omega (arith, e .0)) in rw (e .0) (c .0, record { seam = c .1; known = p; some = e .1 })) u
-
-  ends : (i < end) × (end ≤ length run)
-  ends = ⊎-elim (λ e. (omega arith, omega arith)) (λ e. (omega (arith, e .0, l .behind), omega (arith, e .0, l .inside))) v
-
-  stops : end < length run → (i + 1 < end) × TailSeen run end tail
-  stops k =
-      ⊎-elim (λ e. absurd (omega arith))
-      (λ e. let c = l .seam (omega (arith, e .0)) in rw (e .0) (c .0, record { seam = c .1; known = q; some = e .1 })) v
-
-  before : start ≤ i
-  before = by-cases (ltb 0 start) (λ t. omega (arith, starts (ltb-true 0 start t) .0)) (λ t. omega (arith, ltb-false 0 start t))
-
-  pub surrounds : Surrounds run i (record { start = start; end = end; head = head; tail = tail })
-  surrounds =
-      record {
-        cut = record { ordered = omega (arith, before, ends .0); inside = ends .1; before = λ k. starts k .1; behind = λ k. stops k .1 };
-        first = λ k. starts k .0;
-        last = λ k. stops k .0;
-        inside = ends .0;
-      }
+pub surrounds : {run : List ℕ} {i start end : ℕ} {head tail : Seen} → CutBefore run i start → CutAfter run i end → head ≡ seenOf (take start run)
+    → tail ≡ seenOf (drop end run) → Surrounds run i (record { start = start; end = end; head = head; tail = tail })
+surrounds {i = i} {start = start} f l p q =
+    let b : start ≤ i = by-cases (ltb 0 start) (λ t. omega (arith, f (ltb-true 0 start t) .0)) (λ t. omega (arith, ltb-false 0 start t)) in
+    record {
+      cut = record {
+        ordered = omega (arith, l .behind);
+        inside = l .inside;
+        before = λ k. record { seam = f k .1; known = p };
+        behind = λ k. record { seam = l .seam k .1; known = q };
+      };
+      first = λ k. f k .0;
+      last = λ k. l .seam k .0;
+      inside = l .behind;
+    }

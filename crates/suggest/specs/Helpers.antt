@@ -1,7 +1,7 @@
 -- Helper definitions, for proofs and inner contracts alone: what is seen in a text by its first number, which bytes can stand there, and the list while it is
 -- filled.
 use mathlib.Core.Path.{_≡_}
-use mathlib.Core.Bool.{Bool, true, _&&_, _||_}
+use mathlib.Core.Bool.{Bool, true, false, _&&_, _||_}
 use mathlib.Core.Logic.{_⊎_}
 use mathlib.Core.List.{List, List·Memᴰ}
 use Prim.Native.Nat.{ℕ, _+_, _-_, _*_, _≤_, _<_}
@@ -90,25 +90,19 @@ pub record CutAfter (run : List ℕ) (i r : ℕ) : Type 0 where
   pub inside : r ≤ length run
   pub seam : r < length run → (i + 1 < r) × Seam run r
 
--- the piece starts at the cut, before which no zero is seen, or at 0
-abbrev pub HeadKept : Seen → ℕ → ℕ → Type 0
-HeadKept head cut r = (r ≡ 0) ⊎ ((r ≡ cut) × (head ≡ Duration (pos 0) → ⊥))
+-- false where no zero is seen under `-`
+abbrev pub MinusZero : Bool → Seen → Bool → Type 0
+MinusZero neg seen r = r ≡ false → neg ≡ true → seen ≡ Duration (pos 0) → ⊥
 
--- the piece ends at the cut, behind which a Duration is seen, or at the end
-abbrev pub TailKept : Seen → ℕ → ℕ → ℕ → Type 0
-TailKept tail cut len r = (r ≡ len) ⊎ ((r ≡ cut) × (tail ≡ Other → ⊥))
-
--- what is seen before a cut, which is no zero
+-- what is seen before a cut
 pub record HeadSeen (text : List ℕ) (start : ℕ) (head : Seen) : Type 0 where
   pub seam : Seam text start
   pub known : head ≡ seenOf (take start text)
-  pub some : head ≡ Duration (pos 0) → ⊥
 
--- what is seen behind a cut, a Duration
+-- what is seen behind a cut
 pub record TailSeen (text : List ℕ) (end : ℕ) (tail : Seen) : Type 0 where
   pub seam : Seam text end
   pub known : tail ≡ seenOf (drop end text)
-  pub some : tail ≡ Other → ⊥
 
 -- a text of which `head` is seen before `start`
 pub record Front (text : List ℕ) (start : ℕ) (head : Seen) : Type 0 where

@@ -6,7 +6,7 @@ ghost use Prim.Native.Nat.{_≤_, _<_};
 ghost use lib.ListN.{length};
 ghost use Rattle.base.specs.Classes.{isDigit, isLowerAlpha};
 ghost use Rattle.suggest.specs.Helpers.{seenOf, isMinus, joinSeen, NoSign};
-ghost use Rattle.suggest.specs.Helpers.{CutBefore, CutAfter, HeadKept, TailKept, Front, Surrounds, Cut};
+ghost use Rattle.suggest.specs.Helpers.{CutBefore, CutAfter, MinusZero, Front, Surrounds, Cut};
 use crate::seen::Seen;
 use crate::seen::see;
 use base::class::is_digit;
@@ -65,40 +65,15 @@ fn cut_after(run: &[u8], i: usize) -> usize
     run.len()
 }
 
-// Where the piece starts behind what is seen before a cut. A zero is not cut off: under its `-` the rest may be one more than without.
-fn start_behind(head: Seen, cut: usize) -> usize
-    ensures { λ r. ⌜ HeadKept head cut r ⌝ }
-{
-    let Seen::Duration(nanos) = head else {
-        return cut;
-    };
-    if nanos == 0 {
-        return 0;
-    }
-    cut
-}
-
-// Where the piece ends before what is seen behind a cut. What is no Duration by itself is not cut off.
-fn end_before(tail: Seen, cut: usize, len: usize) -> usize
-    ensures { λ r. ⌜ TailKept tail cut len r ⌝ }
-{
-    match tail {
-        Seen::Duration(_) => cut,
-        Seen::Other => len,
-    }
-}
-
 // What surrounds the byte at `i`.
 pub fn surroundings(run: &[u8], i: usize) -> Around
     requires { ⌜ (i < length (now run)) × (length (now run) ≤ 64) ⌝ }
     ensures { λ r. ⌜ Surrounds (now (run .entry)) i r ⌝ }
 {
-    let first = cut_before(run, i);
-    let last = cut_after(run, i);
-    let head = see(&run[..first]);
-    let tail = see(&run[last..]);
-    let start = start_behind(head, first);
-    let end = end_before(tail, last, run.len());
+    let start = cut_before(run, i);
+    let end = cut_after(run, i);
+    let head = see(&run[..start]);
+    let tail = see(&run[end..]);
     Around {
         start,
         end,
@@ -112,6 +87,16 @@ fn is_minus(text: &[u8]) -> bool
     ensures { λ r. ⌜ r ≡ isMinus (now (text .entry)) ⌝ }
 {
     peek(text, reach_run(Run::Blank, text, 0)) == b'-'
+}
+
+// Whether a zero is seen under `-`. It is joined with nothing: under the sign what follows may be one nanosecond more than by itself.
+fn is_minus_zero(neg: bool, seen: Seen) -> bool
+    ensures { λ r. ⌜ MinusZero neg seen r ⌝ }
+{
+    let Seen::Duration(nanos) = seen else {
+        return false;
+    };
+    neg & (nanos == 0)
 }
 
 // What is seen in two parts as one: the second, which has no sign of its own, is added under that of the first.
@@ -142,11 +127,11 @@ fn see_front(text: &[u8], start: usize, head: Seen) -> Seen
     requires { ⌜ Front (now text) start head ⌝ }
     ensures { λ r. ⌜ r ≡ seenOf (now (text .entry)) ⌝ }
 {
-    let piece = see(&text[start..]);
-    if start == 0 {
-        return piece;
+    let neg = is_minus(text);
+    if (start == 0) | is_minus_zero(neg, head) {
+        return see(text);
     }
-    join(is_minus(text), head, piece)
+    join(neg, head, see(&text[start..]))
 }
 
 // What is seen in a text with a piece of which the surroundings are known.
@@ -160,6 +145,10 @@ pub fn see_around(text: &[u8], a: Around) -> Seen
     if end == text.len() {
         return front;
     }
+    let neg = is_minus(text);
+    if is_minus_zero(neg, front) {
+        return see(text);
+    }
     let tail = a.tail;
-    join(is_minus(text), front, tail)
+    join(neg, front, tail)
 }

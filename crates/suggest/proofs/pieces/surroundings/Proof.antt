@@ -27,15 +27,12 @@ slice-aggregate-see c =
 
 returns : tie.Need-returns
 returns c =
-    let t = c .before .before in
-    let h = t .before .before in
+    let h = c .before .before in
     let l = h .before .before in
-    let s = l .before .before .before in
-    surrounds (s .pre .0) (l .before .cut-before .ensures) (l .cut-after .ensures) (h .see .ensures) (rw rest-is at (t .see2 .ensures))
-    (c .before .start-behind .ensures) (c .end-before .ensures)
+    surrounds (l .before .cut-before .ensures) (l .cut-after .ensures) (h .see .ensures) (rw rest-is at (c .see2 .ensures))
 
 pub surroundings-spec : {M : Type 1} → statement M
 surroundings-spec = tie.close (tie.spec
     (λ c κs. omega (arith, c .before .pre .0)) (λ c κs. c .before .before .pre) slice-aggregate-see (λ c κs. search needs)
     (λ c. c .before .before .cut-after .ensures .inside) (λ c. c .before .before .cut-after .ensures .inside) (λ c. search needs) (λ c κs. search needs)
-    (λ c κs. search needs) (λ c κs. search needs) returns)
+    returns)

@@ -13,6 +13,7 @@ use Rattle.limits.specs.Limits.{maxBytesLiteralLength}
 use Rattle.suggest.specs.Suggestions.{seenIn, firstByte, byteCount, entryBy, candidate, atOffset, upTo, suggestionsOf}
 use Rattle.suggestion_list.specs.Order.{putAll}
 use Rattle.suggestion_list.proofs.Orders.{put-all-append}
+use Rattle.suggest.specs.Calls.{longestRun}
 use Rattle.suggest.specs.Helpers.{Filled, Adds, ByteTried, OffsetTried, AllTried}
 use Rattle.suggest.proofs.Fills.{filled-none, adds-nothing, adds-none, adds-then, adds-offset}
 
@@ -66,7 +67,7 @@ module _ {run₀ : List ℕ} {i : ℕ} {list₀ : List ℤ} {count : ℕ} where
         }
 
     -- one that was tried
-    pub trying-byte : {list′ : List ℤ} {n′ : ℕ} → ByteTried (set run i b) i b list n list′ n′ → length list′ ≡ length list → length run ≤ 64
+    pub trying-byte : {list′ : List ℤ} {n′ : ℕ} → ByteTried (set run i b) i b list n list′ n′ → length list′ ≡ length list → length run ≤ longestRun
         → candidate run₀ i b ≡ entryBy (seenIn maxBytesLiteralLength (set run₀ i b)) i b → Trying run₀ i list₀ count (set run i b) list′ n′ (b + 1)
     trying-byte w r g e =
         let h = t .low in

@@ -22,6 +22,7 @@ use Rattle.lexer.specs.Token.{startAt}
 use Rattle.suggestion_list.specs.Order.{Rising, putAll}
 use Rattle.suggestion_list.specs.Rows.{entryWidth, entryRows}
 use Rattle.suggestion_list.specs.declared.Suggestion.{Suggestion}
+use Rattle.suggest.specs.Calls.{longestRun}
 use Rattle.suggest.specs.Suggestions.{seenIn, firstByte, byteCount, entryBy, atOffset, suggestionsOf}
 use Rattle.suggest.specs.declared.pieces.Around.{Around}
 use Rattle.suggest.specs.declared.seen.Seen.{Seen}
@@ -90,7 +91,7 @@ pub record CutAfter (run : List ℕ) (i r : ℕ) : Type 0 where
   pub inside : r ≤ length run
   pub seam : r < length run → (i + 1 < r) × Seam run r
 
--- false where no zero is seen under `-`
+-- an answer that is false only where no zero is seen under `-`
 abbrev pub MinusZero : Bool → Seen → Bool → Type 0
 MinusZero neg seen r = r ≡ false → neg ≡ true → seen ≡ Duration (pos 0) → ⊥
 
@@ -143,7 +144,7 @@ pub record Adds (xs : List Suggestion) (i b j c : ℕ) (list : List ℤ) (count 
 -- one candidate was tried, whose text this is
 pub record ByteTried (text : List ℕ) (i b : ℕ) (list : List ℤ) (count : ℕ) (list′ : List ℤ) (count′ : ℕ) : Type 0 where
   pub one : count′ ≤ count + 1
-  pub adds : length text ≤ 64 → Adds (entryBy (seenIn maxBytesLiteralLength text) i b) i b i (b + 1) list count list′ count′
+  pub adds : length text ≤ longestRun → Adds (entryBy (seenIn maxBytesLiteralLength text) i b) i b i (b + 1) list count list′ count′
 
 -- all candidates of an offset were tried
 pub record OffsetTried (run : List ℕ) (i : ℕ) (list : List ℤ) (count : ℕ) (list′ : List ℤ) (count′ : ℕ) : Type 0 where

@@ -1,8 +1,9 @@
 // The candidates, in the order of offset and byte, and what each of them gives.
 ghost use mathlib.Core.Path.{_≡_};
-ghost use Prim.Native.Nat.{_+_, _*_, _≤_, _<_};
+ghost use Prim.Native.Nat.{_*_, _≤_, _<_};
 ghost use lib.ListN.{length};
-ghost use Rattle.suggest.specs.Suggestions.{firstByte, byteCount, suggestionsOf};
+ghost use Rattle.suggest.specs.Suggestions.{byteCount, suggestionsOf};
+ghost use Rattle.suggest.specs.Calls.{longestRun};
 ghost use Rattle.suggest.specs.Helpers.{canStand, Cut, ByteTried, OffsetTried, AllTried};
 use crate::pieces::Around;
 use crate::pieces::see_around;
@@ -52,7 +53,7 @@ fn try_byte(text: &[u8], i: usize, b: u8, around: Around, list: &mut [i64], coun
 
 // Adds what each printable byte other than the run's own gives at the offset `i`. The run is as it was afterwards.
 fn try_offset(run: &mut [u8], i: usize, list: &mut [i64], count: usize) -> usize
-    requires { ⌜ (i < length (now run)) × (length (now run) ≤ 64) × (count ≤ i * byteCount) ⌝ }
+    requires { ⌜ (i < length (now run)) × (length (now run) ≤ longestRun) × (count ≤ i * byteCount) ⌝ }
     ensures { λ r. ⌜ OffsetTried (now (run .entry)) i (now (list .entry)) count (now (list .exit)) r × (now (run .exit) ≡ now (run .entry)) ⌝ }
 {
     let around = surroundings(run, i);
@@ -72,7 +73,7 @@ fn try_offset(run: &mut [u8], i: usize, list: &mut [i64], count: usize) -> usize
 
 // The same at each offset.
 fn try_offsets(run: &mut [u8], list: &mut [i64]) -> usize
-    requires { ⌜ length (now run) ≤ 64 ⌝ }
+    requires { ⌜ length (now run) ≤ longestRun ⌝ }
     ensures { λ r. ⌜ AllTried (now (run .entry)) (now (list .entry)) (now (list .exit)) r ⌝ }
 {
     let mut count = 0;
@@ -86,7 +87,7 @@ fn try_offsets(run: &mut [u8], list: &mut [i64]) -> usize
 
 // Counts the suggestions for a run, and fills the list with them where it has room for all.
 pub fn fill_all(run: &[u8], list: &mut [i64]) -> usize
-    requires { ⌜ length (now run) ≤ 64 ⌝ }
+    requires { ⌜ length (now run) ≤ longestRun ⌝ }
     ensures { λ r. ⌜ AllTried (now (run .entry)) (now (list .entry)) (now (list .exit)) r ⌝ }
 {
     let n = run.len();
@@ -97,7 +98,7 @@ pub fn fill_all(run: &[u8], list: &mut [i64]) -> usize
 
 // Counts them alone: a list of one number has no room for any.
 pub fn count_all(run: &[u8]) -> usize
-    requires { ⌜ length (now run) ≤ 64 ⌝ }
+    requires { ⌜ length (now run) ≤ longestRun ⌝ }
     ensures { λ r. ⌜ r ≡ length (suggestionsOf (now (run .entry))) ⌝ }
 {
     let mut none = [0i64; 1];

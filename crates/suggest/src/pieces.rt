@@ -5,6 +5,7 @@ ghost use mathlib.Core.Bool.{_&&_};
 ghost use Prim.Native.Nat.{_≤_, _<_};
 ghost use lib.ListN.{length};
 ghost use Rattle.base.specs.Classes.{isDigit, isLowerAlpha};
+ghost use Rattle.suggest.specs.Calls.{longestRun};
 ghost use Rattle.suggest.specs.Helpers.{seenOf, isMinus, joinSeen, NoSign};
 ghost use Rattle.suggest.specs.Helpers.{CutBefore, CutAfter, MinusZero, Front, Surrounds, Cut};
 use crate::seen::Seen;
@@ -52,7 +53,7 @@ fn cut_before(run: &[u8], i: usize) -> usize
 
 // A cut behind the byte at `i`, or the end where there is none.
 fn cut_after(run: &[u8], i: usize) -> usize
-    requires { ⌜ (i < length (now run)) × (length (now run) ≤ 64) ⌝ }
+    requires { ⌜ (i < length (now run)) × (length (now run) ≤ longestRun) ⌝ }
     ensures { λ r. ⌜ CutAfter (now (run .entry)) i r ⌝ }
 {
     let mut p = i + 2;
@@ -67,7 +68,7 @@ fn cut_after(run: &[u8], i: usize) -> usize
 
 // What surrounds the byte at `i`.
 pub fn surroundings(run: &[u8], i: usize) -> Around
-    requires { ⌜ (i < length (now run)) × (length (now run) ≤ 64) ⌝ }
+    requires { ⌜ (i < length (now run)) × (length (now run) ≤ longestRun) ⌝ }
     ensures { λ r. ⌜ Surrounds (now (run .entry)) i r ⌝ }
 {
     let start = cut_before(run, i);

@@ -1,4 +1,4 @@
--- For `see_piece`: what is seen in a text that is cut behind a letter and before a digit is what is seen in both parts as one. By the written parts of a
+-- For Seams: what is seen in a text that is cut behind a letter and before a digit is what is seen in both parts as one. By the written parts of a
 -- Duration, none of which reaches over the seam. Assumes nothing.
 use mathlib.Core.Path.{_≡_, refl, ap, sym, subst, _∙_}
 use mathlib.Core.Bool.{Bool, true, false}

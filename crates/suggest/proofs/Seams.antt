@@ -22,7 +22,7 @@ use Rattle.suggest.specs.declared.seen.Seen.the-variants.{Duration, Othe
 use Rattle.suggest.proofs.Cuts.{cut-seen, cut-minus, digit-nonneg}
 
 module _ {text : List ℕ} {p : ℕ} (s : Seam text p) where
-  pub seam-in : p < length text
+  seam-in : p < length text
   seam-in = in-text isDigit text p no-digit (s .digit)
 
   long : length (take p text) ≡ p

@@ -70,19 +70,19 @@ module _ {i b : ℕ} {es : List Suggestion} (o : Ordered i b es) where
         tried = λ y m. ⊎-elim (λ q. inr (ap (λ (v : Suggestion). v .offset) q, rw q (omega arith))) (λ p. ordered-byte .tried y p) (put-member x y es m);
       }
 
-  pub ordered-seen : (s : Seen) → Ordered i (b + 1) (putAll es (entryBy s i b))
+  ordered-seen : (s : Seen) → Ordered i (b + 1) (putAll es (entryBy s i b))
   unfolding putAll
   ordered-seen (Duration z) = ordered-put z
   ordered-seen Other = ordered-byte
 
-  pub ordered-candidate : (run : List ℕ) → Ordered i (b + 1) (putAll es (candidate run i b))
+  ordered-candidate : (run : List ℕ) → Ordered i (b + 1) (putAll es (candidate run i b))
   unfolding candidate putAll
   ordered-candidate run =
       pick-case (λ (xs : List Suggestion). Ordered i (b + 1) (putAll es xs)) (eqb b (byte run i)) (λ _. ordered-byte)
       (λ _. ordered-seen (seenIn maxBytesLiteralLength (set run i b)))
 
 -- the candidates of the first n bytes at an offset
-pub ordered-bytes : (run : List ℕ) (i n : ℕ) {es : List Suggestion} → Ordered i firstByte es → Ordered i (firstByte + n) (putAll es (atOffset run i n))
+ordered-bytes : (run : List ℕ) (i n : ℕ) {es : List Suggestion} → Ordered i firstByte es → Ordered i (firstByte + n) (putAll es (atOffset run i n))
 unfolding atOffset putAll
 ordered-bytes run i zero o = o
 ordered-bytes run i (suc n) {es} o =

@@ -15,7 +15,7 @@ use Rattle.suggestion_list.specs.Helpers.{Behind, Ready}
 use Rattle.suggestion_list.specs.declared.Suggestion.{Suggestion}
 use Rattle.suggestion_list.proofs.Signs.{less, less-test, not-itself, not-both, same, less-on}
 
-pub before-is : (x y : Suggestion) → before x y ≡ true → Before x y
+before-is : (x y : Suggestion) → before x y ≡ true → Before x y
 before-is x y e =
     by-cases (ltZ (x .nanos) (y .nanos)) (λ l. fewer (less l))
     (λ l.
@@ -64,12 +64,12 @@ put-member x y (e ∷ es) =
     (λ _ i.
     ⊎-elim (λ q. inr (List·Memᴰ·head q)) (λ j. ⊎-elim inl (λ k. inr (List·Memᴰ·tail k)) (put-member x y es j)) (List·Memᴰ·cases-cons i))
 
-pub put-has : (x : Suggestion) (es : List Suggestion) → List·Memᴰ x (put x es)
+put-has : (x : Suggestion) (es : List Suggestion) → List·Memᴰ x (put x es)
 unfolding put
 put-has x [] = List·Memᴰ·head refl
 put-has x (e ∷ es) = pick-case (List·Memᴰ x) (before x e) (λ _. List·Memᴰ·head refl) (λ _. List·Memᴰ·tail (put-has x es))
 
-pub put-keeps : (x y : Suggestion) (es : List Suggestion) → List·Memᴰ y es → List·Memᴰ y (put x es)
+put-keeps : (x y : Suggestion) (es : List Suggestion) → List·Memᴰ y es → List·Memᴰ y (put x es)
 unfolding put
 put-keeps x y [] i = absurd (List·Memᴰ·not-nil i)
 put-keeps x y (e ∷ es) i =
@@ -118,7 +118,7 @@ put-all-member y ys [] i = inl i
 put-all-member y ys (x ∷ xs) i =
     ⊎-elim (λ j. ⊎-elim (λ e. inr (List·Memᴰ·head e)) inl (put-member x y ys j)) (λ j. inr (List·Memᴰ·tail j)) (put-all-member y (put x ys) xs i)
 
-pub put-all-keeps : (y : Suggestion) (ys xs : List Suggestion) → List·Memᴰ y ys → List·Memᴰ y (putAll ys xs)
+put-all-keeps : (y : Suggestion) (ys xs : List Suggestion) → List·Memᴰ y ys → List·Memᴰ y (putAll ys xs)
 unfolding putAll
 put-all-keeps y ys [] i = i
 put-all-keeps y ys (x ∷ xs) i = put-all-keeps y (put x ys) xs (put-keeps x y ys i)

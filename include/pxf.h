@@ -6,11 +6,11 @@
  * may call it at the same time; they may share what is only read, and each lends buffers of its own. docs/RULES.md says what tokens a text has,
  * examples/tokens.c lists them.
  *
- * Each function returns 0 where the call is accepted, else the number of its refusal, PXF_REFUSED_... below. The checks go in a fixed order, and the
- * first that fails is the answer: 1, 2, 3, 4, 5, 6 for a text, 8, 9, 10 for the writer of token files, 7, 8, 4 for their reader, 11, 12
- * for suggestions. A refused call writes to no buffer. An accepted one leaves a buffer past its result as it was. `answer` is no buffer: every call
- * sets all six of its numbers, to 0 where the call gives none. A length counts elements. Buffers must not overlap, and a pointer must not be null,
- * even where its length is 0.
+ * pxf_interface and pxf_byte_kind refuse nothing and return the number that they give. Each other function returns 0 where the call is accepted, else
+ * the number of its refusal, PXF_REFUSED_... below. The checks go in a fixed order, and the first that fails is the answer: 1, 2, 3, 4, 5, 6 for a
+ * text, 8, 9, 10 for the writer of token files, 7, 8, 4 for their reader, 11, 12 for suggestions. A refused call writes to no buffer. An accepted one
+ * leaves a buffer past its result as it was. `answer` is no buffer: every call that takes it sets all six of its numbers, to 0 where the call gives
+ * none. A length counts elements. Buffers must not overlap, and a pointer must not be null, even where its length is 0.
  *
  * A String's value lies in the string buffer; every other value, and every precision, lies in the text.
  */
@@ -66,6 +66,12 @@ extern "C" {
 #define PXF_SUGGESTION_NANOSECONDS 0 /* of the Duration that the run then is */
 #define PXF_SUGGESTION_OFFSET 1      /* of the byte in the run */
 #define PXF_SUGGESTION_BYTE 2        /* that is to stand there, 32 to 126 */
+
+/* The kinds of a byte. Its entry in the table of byte kinds is the sum of those that it has. */
+#define PXF_BYTE_DIGIT 1  /* a digit, `0` to `9` */
+#define PXF_BYTE_LETTER 2 /* an ASCII letter */
+#define PXF_BYTE_NAME 4   /* a byte that can go on a name: a digit, an ASCII letter, `_` or `.` */
+#define PXF_BYTE_UNIT 8   /* the first byte of a unit: `h`, `m`, `n`, `s`, `u`, and 0xC2, which begins the micro sign, U+00B5 */
 
 /* The kinds of a token. */
 #define PXF_KIND_EOF 0
@@ -207,6 +213,9 @@ uint8_t pxf_suggest_durations(
     int64_t *list,         /* gets the suggestions, in the order above */
     size_t list_len,       /* refusal 12 below three a suggestion */
     int64_t answer[6]);    /* suggestions, 0, 0, 0, 0, 0 */
+
+/* Gives the entry of a byte in the table of byte kinds, which docs/BYTE-KINDS.md has whole. Every byte has one, 0 where it is of no kind. */
+uint8_t pxf_byte_kind(uint8_t byte);
 
 /* Writes a token file: 9 + 16 * count bytes. */
 uint8_t pxf_write_token_file(

@@ -16,6 +16,15 @@ const MODULES: [&str; 8] = [
     "token",
 ];
 
+/// The lexer's tests of one byte. None of them is public there, so the build
+/// copies each into a module of its own, where it is.
+const CLASSES: [&str; 4] = [
+    "is_digit",
+    "is_ident_start",
+    "is_ident_part",
+    "is_duration_unit",
+];
+
 /// The features that link a static library, each named as its library is.
 const LIBRARIES: [&str; 2] = ["exports", "pxf"];
 
@@ -24,9 +33,10 @@ fn main() {
     let root = project.parent().unwrap();
 
     let sources = folder("PXF_RUST_SRC", &root.join("../shared/docs/src"));
-    let modules: String = MODULES.map(|name| module(&sources, name)).concat();
+    let modules = MODULES.map(|name| module(&source(&sources, name), name));
+    let classes = classes(&source(&sources, "lexer"));
     let out = PathBuf::from(env::var_os("OUT_DIR").unwrap());
-    fs::write(out.join("rust.rs"), modules).unwrap();
+    fs::write(out.join("rust.rs"), modules.concat() + &classes).unwrap();
 
     let libraries = folder("PXF_LIB", &root.join("target/staticlib"));
     for name in LIBRARIES {
@@ -45,9 +55,9 @@ fn folder(variable: &str, usual: &Path) -> PathBuf {
     env::var_os(variable).map_or(usual.to_path_buf(), PathBuf::from)
 }
 
-/// The line that declares one Rust module. A published source has its
-/// whole path in its name; a source in its own folder is `NAME.rs`.
-fn module(sources: &Path, name: &str) -> String {
+/// The file of one Rust module. A published source has its whole path in its
+/// name; a source in its own folder is `NAME.rs`.
+fn source(sources: &Path, name: &str) -> PathBuf {
     let published = format!("src--crates--protowire-pxf--src--{name}.rs.txt");
     let file = [published, format!("{name}.rs")]
         .iter()
@@ -59,6 +69,28 @@ fn module(sources: &Path, name: &str) -> String {
             )
         });
     println!("cargo:rerun-if-changed={}", file.display());
+    file
+}
+
+/// The line that declares one Rust module.
+fn module(file: &Path, name: &str) -> String {
     // Most of the Rust is unused here; its style is its authors' own.
     format!("#[allow(dead_code, clippy::all)]\n#[path = {file:?}]\npub mod {name};\n")
+}
+
+/// The module of the lexer's tests of one byte.
+fn classes(lexer: &Path) -> String {
+    let text = fs::read_to_string(lexer).unwrap();
+    let functions = CLASSES.map(|name| function(&text, name)).concat();
+    format!("#[allow(clippy::all)]\npub mod classes {{\n{functions}}}\n")
+}
+
+/// The text of a function that stands outside of all blocks, made public: it
+/// ends with the first brace at a line's start.
+fn function(text: &str, name: &str) -> String {
+    let (_, after) = text
+        .split_once(&format!("fn {name}("))
+        .unwrap_or_else(|| panic!("lexer.rs has no function {name}"));
+    let (rest, _) = after.split_once("\n}\n").expect("a function's end");
+    format!("pub fn {name}({rest}\n}}\n")
 }

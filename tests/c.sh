@@ -1,6 +1,7 @@
 #!/usr/bin/env bash
-# Makes the archive of the C interface, and uses it and include/pxf.h as a C program's author would: the example examples/tokens.c, and a program
-# that makes each call. What the example prints is held to lines that are worked out here from document 01.
+# Makes the archive of the C interface, and uses it and include/pxf.h as a C program's author would: the example examples/tokens.c, a program that
+# makes each call, and one that prints the kind of every byte. What the example and the latter print is held to lines that are worked out here, from
+# document 01 and from change request #103.
 # The last line is `N passed, M failed`; the status is 1 where M is not 0. CC and CXX name other compilers.
 set -euo pipefail
 cd "$(dirname "$0")/.."
@@ -131,6 +132,7 @@ static int answers(int64_t a, int64_t b, int64_t c, int64_t d, int64_t e, int64_
 
 int main(void) {
     HOLDS(pxf_interface() == PXF_INTERFACE);
+    HOLDS(pxf_byte_kind('7') == PXF_BYTE_DIGIT + PXF_BYTE_NAME && pxf_byte_kind('u') == PXF_BYTE_LETTER + PXF_BYTE_NAME + PXF_BYTE_UNIT);
     /* An Ident, a String that ends with the text after a bad escape, and Eof; two reports. */
     ACCEPTED(READ_TEXT(text, 5, 36, 2, 10), 3, 2, 2, 0, 0, 0);
     HOLDS(memcmp(lent.strings, "\\qMM", 4) == 0 && lent.tokens[36] == before.tokens[36] && lent.reports[10] == before.reports[10]);
@@ -196,5 +198,26 @@ if command -v "${CXX:-c++}" >"$work/report"; then
     holds 'a program of all calls is built, as C++' 0 cpp "$work/calls.c" -x none "$archive" -o "$work/calls++"
     holds 'each call, from C++' 0 "$work/calls++"
 fi
+
+# The kind of every byte: 1 for a digit, 2 for an ASCII letter, 4 for these, `.` and `_`, 8 for h, m, n, s, u and 0xC2.
+cat >"$work/kinds.c" <<'END'
+#include <pxf.h>
+#include <stdio.h>
+
+int main(void) {
+    for (int byte = 0; byte < 256; byte++) printf("%d %d\n", byte, pxf_byte_kind((uint8_t)byte));
+}
+END
+holds 'a program of all bytes is built' 0 c "$work/kinds.c" "$archive" -o "$work/kinds"
+awk 'BEGIN {
+    for (byte = 0; byte < 256; byte++) {
+        digit = byte >= 48 && byte <= 57
+        letter = byte >= 65 && byte <= 90 || byte >= 97 && byte <= 122
+        name = digit || letter || byte == 46 || byte == 95
+        unit = byte ~ /^(104|109|110|115|117|194)$/
+        print byte, digit + 2 * letter + 4 * name + 8 * unit
+    }
+}' >"$work/expected"
+holds 'the kind of every byte' 0 "$work/kinds"
 
 tally

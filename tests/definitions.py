@@ -12,6 +12,7 @@ CRATES = os.path.join(os.path.dirname(os.path.abspath(__file__)), "..", "crates"
 # Contracts of public calls that no function of the C interface wraps, and results that proofs/ show.
 STATED = [
     ("base", "Bytes", "AreBytes"),
+    ("base", "Kinds", "TableOfKinds"),
     ("utf8", "Check", "Checked"),
     ("go_duration", "Written", "Accepted"),
     ("rfc3339", "Instant", "InRange"),

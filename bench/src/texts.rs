@@ -2,6 +2,7 @@
 //! bad for a reader as they can be.
 
 use std::fmt::Write;
+use std::process::exit;
 
 use oracle::random::Random;
 use oracle::records::Mode;
@@ -61,6 +62,16 @@ pub const TEXTS: [Text; 23] = [
         })
     },
 ];
+
+/// The text of a name. Where there is none, the program ends with status 2.
+pub fn named(name: &str) -> &'static Text {
+    let text = TEXTS.iter().find(|text| text.name == name);
+    text.unwrap_or_else(|| {
+        let names = TEXTS.map(|text| text.name);
+        eprintln!("no text is named {name:?}; there are {names:?}");
+        exit(2)
+    })
+}
 
 const fn yard(name: &'static str, goal: f64, make: fn(usize) -> Vec<u8>) -> Text {
     Text {

@@ -83,6 +83,7 @@ mod pxf {
             list_len: usize,
             answer: *mut i64,
         ) -> u8;
+        fn pxf_byte_kind(byte: u8) -> u8;
     }
 
     /// The buffers that a call on a text is lent.
@@ -200,6 +201,12 @@ mod pxf {
                 answer.as_mut_ptr(),
             )
         }
+    }
+
+    /// The byte's entry in the table of byte kinds.
+    pub fn byte_kind(byte: u8) -> u8 {
+        // SAFETY: the function is given a number and no pointer.
+        unsafe { pxf_byte_kind(byte) }
     }
 
     /// 0 or the refusal's number; `answer` gets the bytes written.

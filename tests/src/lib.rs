@@ -5,7 +5,8 @@
 extern crate self as protowire_check;
 pub use stand_ins::{BoxError, Error, KeyedError};
 
-// The Rust modules: lexer, token, go_duration and those they lean on.
+// The Rust modules: lexer, token, go_duration and those they lean on; and
+// classes, the lexer's tests of one byte.
 include!(concat!(env!("OUT_DIR"), "/rust.rs"));
 
 #[cfg(feature = "pxf")]

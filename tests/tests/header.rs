@@ -80,6 +80,13 @@ fn the_numbers_of_a_record_a_report_and_a_suggestion_stand_in_order() {
 }
 
 #[test]
+fn the_kinds_of_a_byte_are_1_2_4_and_8() {
+    let kinds = [("DIGIT", 1), ("LETTER", 2), ("NAME", 4), ("UNIT", 8)];
+    let named = kinds.map(|(name, number)| (name.to_string(), number));
+    assert_eq!(group("BYTE_"), BTreeMap::from(named));
+}
+
+#[test]
 fn the_limits_are_the_rusts_and_those_of_suggestions() {
     let limits = [
         ("MESSAGE_SIZE".to_string(), MAX_MESSAGE_SIZE),

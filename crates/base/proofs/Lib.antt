@@ -8,4 +8,6 @@ pub mod Stores
 pub mod Storings
 pub mod Signed
 pub mod Tables
+pub mod ByteKinds
+pub mod KindRuns
 pub mod Words

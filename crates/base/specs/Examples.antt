@@ -1,4 +1,5 @@
--- Signs as bytes, and the test of a digit, which the lexer, the reader of durations and demand 3 share, worked out over all bytes.
+-- Signs as bytes; the test of a digit, which the lexer, the reader of durations and demand 3 share, worked out over all bytes; entries of the table of byte
+-- kinds.
 use mathlib.Core.Path.{_≡_, refl}
 use mathlib.Core.Bool.{Bool, true, false}
 use mathlib.Core.List.{List, [], _∷_, _++_, map}
@@ -7,6 +8,7 @@ use lib.ListN.{replicate}
 use Rattle.base.specs.Characters.{ascii}
 use Rattle.base.specs.Bytes.{each}
 use Rattle.base.specs.Classes.{isDigit}
+use Rattle.base.specs.Kinds.{kindOf}
 
 -- so many numbers from n on
 abbrev from : ℕ → ℕ → List ℕ
@@ -24,6 +26,10 @@ controls = refl
 pub digits : map isDigit (from 0 256) ≡ replicate 48 false ++ (replicate 10 true ++ replicate 198 false)
 unfolding isDigit
 digits = refl
+
+-- a digit, two letters, two letters that begin units, the two signs of a name, one of none; the first bytes of U+00B5 and of U+03BC
+pub entries : map kindOf (ascii "7Aphu_.-" ++ (0xC2 ∷ 0xCE ∷ [])) ≡ 5 ∷ 6 ∷ 6 ∷ 14 ∷ 14 ∷ 4 ∷ 4 ∷ 0 ∷ 8 ∷ 0 ∷ []
+entries = refl
 
 -- bytes, and whether each of them is a digit
 pub record Case : Type 0 where

@@ -4,6 +4,8 @@ pub mod Bytes
 pub mod Classes
 pub mod Digits
 pub mod Runs
+pub mod Kinds
+pub mod Masks
 pub mod Blocks
 pub mod Buffers
 pub mod Examples

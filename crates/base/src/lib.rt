@@ -1,5 +1,5 @@
-// What every crate shares: bytes read from a slice, tests of bytes, and stores. The definitions and laws that all crates cite stand in
-// specs/ and proofs/.
+// What every crate shares: bytes read from a slice, the table of byte kinds and the tests of bytes, and stores. The definitions and laws that all
+// crates cite stand in specs/ and proofs/.
 ghost use mathlib.Core.Path.{_≡_};
 ghost use Prim.Native.Nat.{_+_, _≤_, _<_};
 ghost use lib.ListN.{length, take, drop};
@@ -9,6 +9,7 @@ ghost use Rattle.base.specs.Bytes.{byte};
 pub mod class;
 pub mod digits;
 pub mod find;
+pub mod kinds;
 
 use crate::find::BLOCK;
 

@@ -2,6 +2,7 @@
 ghost use Prim.Native.Nat.{_≤_, _<_};
 ghost use mathlib.Core.Path.{_≡_};
 ghost use lib.ListN.{length};
+use base::class::is_digit;
 
 // A byte as a number.
 pub fn wide(b: u8) -> u64
@@ -51,10 +52,7 @@ pub fn next_line(s: &[u8], from: usize) -> usize
 pub fn digit(b: u8) -> u64
     ensures { λ r. ⌜ r ≤ 16 ⌝ }
 {
-    if b < b'0' {
-        return 16;
-    }
-    if b <= b'9' {
+    if is_digit(b) {
         return wide(b - b'0');
     }
     if b < b'a' {

@@ -2,11 +2,13 @@
 -- run of this crate ends between characters, since its tests are of ASCII bytes. Assumes nothing.
 use mathlib.Core.Path.{_≡_, refl, sym, _∙_}
 use mathlib.Core.Bool.{Bool, true, false, not, _&&_, _||_}
-use mathlib.Core.List.{List, _∷_}
+use mathlib.Core.List.{List, [], _∷_}
 use Prim.Native.Nat.{ℕ, zero, suc, _+_, _≤_, _<_}
 use native.Mathlib.Nat.{add-zero}
 use native.Mathlib.Numerals.{add-one}
 use native.Mathlib.Omega.{arith}
+use types.Run.{OneOf, miss}
+use denote.Enum.Declared.{tagOf}
 use borrow.Author.Tests.{ltb-true, ltb-false, eqb-true, ne-eqb, not-false}
 use lib.Dec.{ltb, eqb}
 use lib.ListN.{length, drop}
@@ -15,7 +17,7 @@ use Rattle.base.specs.Choice.{pick}
 use Rattle.base.specs.Bytes.{byte}
 use Rattle.base.specs.Classes.{isDigit, isLowerAlpha, isIdentStart, isIdentPart, isSpace}
 use Rattle.base.specs.Runs.{reach, past}
-use Rattle.base.proofs.Tests.{and-left, and-right, true-false, inside, under, over, in-text, by-cases, failed, passed}
+use Rattle.base.proofs.Tests.{and-left, and-right, true-false, under, over, in-text, by-cases, failed, passed}
 use Rattle.base.proofs.Reaches.{reach-step, reach-stop, reach-end, reach-fails}
 use Rattle.base.proofs.Walks.{past-step, past-stop, past-end}
 use Rattle.token.specs.Helpers.{Flat}
@@ -25,10 +27,30 @@ use Rattle.utf8.specs.Check.{isTail}
 use Rattle.utf8.proofs.Boundaries.{boundary-le, next-boundary, ascii-boundary, reach-boundary, stop-boundary}
 use Rattle.utf8.proofs.Concatenations.{ascii-no-tail}
 use Rattle.scan.specs.Run.{endsTimestamp, inRun, unitPiece}
-use Rattle.scan.specs.Helpers.{inLetters}
+use Rattle.scan.specs.Helpers.{byKind, inLetters}
 use Rattle.scan.specs.declared.run.Run.the-variants as run
 use Rattle.scan.specs.declared.run.Run.{Run}
+use Rattle.scan.proofs.run.Run.{the-type}
 use Rattle.scan.proofs.Flats.{flat-byte}
+
+-- a run by the number of its variant, as a `match` tells it: those that no kind of the table tells, and the others
+pub other-arm : (k : Run) → OneOf (0 ∷ 1 ∷ 2 ∷ 5 ∷ []) (tagOf the-type k) → byKind k ≡ false
+unfolding byKind
+other-arm run.Blank h = refl
+other-arm run.Line h = refl
+other-arm run.Body h = refl
+other-arm run.Name h = absurd (miss (0 ∷ 1 ∷ 2 ∷ 5 ∷ []) _ tt h)
+other-arm run.Digits h = absurd (miss (0 ∷ 1 ∷ 2 ∷ 5 ∷ []) _ tt h)
+other-arm run.Stamp h = refl
+
+pub kind-arm : (k : Run) → OneOf (3 ∷ 4 ∷ []) (tagOf the-type k) → byKind k ≡ true
+unfolding byKind
+kind-arm run.Blank h = absurd (miss (3 ∷ 4 ∷ []) _ tt h)
+kind-arm run.Line h = absurd (miss (3 ∷ 4 ∷ []) _ tt h)
+kind-arm run.Body h = absurd (miss (3 ∷ 4 ∷ []) _ tt h)
+kind-arm run.Name h = refl
+kind-arm run.Digits h = refl
+kind-arm run.Stamp h = absurd (miss (3 ∷ 4 ∷ []) _ tt h)
 
 -- a piece of one byte, and the two bytes of U+00B5, by an index into the text
 abbrev pub oneByte : List ℕ → ℕ → Bool
@@ -63,16 +85,16 @@ module _ (a : ℕ) where
   unfolding isLowerAlpha
   low-none x e f l = rw (failed x e f) (under 97 122 a l)
 
-  pub high-none : 122 < a → isDigit a || isLowerAlpha a ≡ false
-  unfolding isDigit isLowerAlpha
-  high-none l = rw (over 48 57 a (omega arith)) (over 97 122 a l)
+  pub high-none : (x : Bool) → x ≡ isLowerAlpha a → not x ≡ true → 97 ≤ a → isDigit a || isLowerAlpha a ≡ false
+  unfolding isDigit
+  high-none x e f l = rw (over 48 57 a (omega arith)) (failed x e f)
 
   pub low-one : (x : Bool) → x ≡ isDigit a → not x ≡ false → isDigit a || isLowerAlpha a ≡ true
   low-one x e f = rw (passed x e f)
 
-  pub high-one : 97 ≤ a → a ≤ 122 → isDigit a || isLowerAlpha a ≡ true
-  unfolding isDigit isLowerAlpha
-  high-one l h = rw (over 48 57 a (omega arith)) (inside 97 122 a l h)
+  pub high-one : (x : Bool) → x ≡ isLowerAlpha a → not x ≡ false → 97 ≤ a → isDigit a || isLowerAlpha a ≡ true
+  unfolding isDigit
+  high-one x e f l = rw (over 48 57 a (omega arith)) (passed x e f)
 
 -- the pieces from its start and from its end have the same end; n bounds the bytes that are left
 letters-past : (s : List ℕ) (n i : ℕ) → length s ≤ i + n → past unitPiece s (reach inLetters s i) ≡ past unitPiece s i

@@ -7,8 +7,8 @@ ghost use Rattle.scan.specs.Number.{goesOnFloat, numberKind, valueEnd, l
 use crate::run::Run;
 use crate::run::past_units;
 use crate::run::reach_run;
+use base::class::begins_unit;
 use base::class::is_digit;
-use base::class::is_duration_unit;
 use base::class::is_ident_part;
 use base::peek;
 use go_duration::parse::Parsed;
@@ -23,8 +23,10 @@ fn lex_precision(kind: TokenKind, s: &[u8], end: usize) -> Lexeme
     requires { ⌜ end ≤ length (now s) ⌝ }
     ensures { λ r. ⌜ r ≡ lexPrecision kind (now (s .entry)) end ⌝ }
 {
-    if (peek(s, end) == b'p') & is_digit(peek(s, end + 1)) {
-        return lexeme::precise(kind, end, reach_run(Run::Digits, s, end + 1));
+    if peek(s, end) == b'p' {
+        if is_digit(peek(s, end + 1)) {
+            return lexeme::precise(kind, end, reach_run(Run::Digits, s, end + 1));
+        }
     }
     lexeme::whole(kind, end)
 }
@@ -69,8 +71,10 @@ fn past_fraction(s: &[u8], i: usize) -> usize
     requires { ⌜ i ≤ length (now s) ⌝ }
     ensures { λ r. ⌜ r ≡ pastFraction (now (s .entry)) i ⌝ }
 {
-    if (peek(s, i) == b'.') & is_digit(peek(s, i + 1)) {
-        return reach_run(Run::Digits, s, i + 1);
+    if peek(s, i) == b'.' {
+        if is_digit(peek(s, i + 1)) {
+            return reach_run(Run::Digits, s, i + 2);
+        }
     }
     i
 }
@@ -79,7 +83,7 @@ fn past_fraction(s: &[u8], i: usize) -> usize
 fn at_duration_unit(a: u8, b: u8) -> bool
     ensures { λ r. ⌜ r ≡ atDurationUnit a b ⌝ }
 {
-    is_duration_unit(a) | ((a == 0xC2) & (b == 0xB5))
+    begins_unit(a) & ((a != 0xC2) | (b == 0xB5))
 }
 
 // A duration whose first unit begins at `f`.

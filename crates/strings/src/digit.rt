@@ -1,12 +1,13 @@
 // Digits, and the escapes of one letter.
 ghost use mathlib.Core.Path.{_≡_};
 ghost use Rattle.strings.specs.Piece.{hexOf, octOf, simpleOf};
+use base::class::is_digit;
 
 // The value of a hexadecimal digit; 16 for any other byte.
 pub fn hex_val(c: u8) -> u8
     ensures { λ r. ⌜ r ≡ hexOf c ⌝ }
 {
-    if (b'0' <= c) & (c <= b'9') {
+    if is_digit(c) {
         return c - 48;
     }
     if (b'A' <= c) & (c <= b'F') {

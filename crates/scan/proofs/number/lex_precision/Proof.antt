@@ -1,7 +1,10 @@
 -- `lex_precision` meets its contract: `p` and a digit, or nothing; the run of the digits ends after the `p`. Assumes nothing.
+use mathlib.Core.Bool.{and-false}
+use mathlib.Core.Logic.{⊎-elim}
 use native.Mathlib.Nat.{lt-of-lt-of-le}
 use native.Mathlib.Numerals.{lt-add-one}
 use borrow.Author.Needs.{needs}
+use borrow.Author.Tests.{ne-eqb}
 use Rattle.base.proofs.Reaches.{reach-ge}
 use Rattle.scan.specs.Number.{lexPrecision}
 use Rattle.scan.specs.Run.{inRun}
@@ -11,16 +14,22 @@ use Rattle.scan.proofs.number.lex_precision.Tie as tie
 returns : tie.Need-returns
 unfolding lexPrecision
 returns c =
-    let b = c .before .before .before in
-    let run = c .before .reach-run .ensures in
-    rw (← b .before .before .peek .ensures, ← b .before .peek2 .ensures, ← b .is-digit .ensures, c .before .before .if1 .taken, ← run)
-    (c .precise .ensures)
+    let d = c .before .before .before in
+    let p = d .before .before in
+    rw (
+      ← p .before .peek .ensures,
+      p .if1 .taken,
+      ← d .before .peek2 .ensures,
+      ← d .is-digit .ensures,
+      c .before .before .if2 .taken,
+      ← c .before .reach-run .ensures,
+    ) (c .precise .ensures)
 
 returns-2 : tie.Need-returns-2
 unfolding lexPrecision
 returns-2 c =
-    let b = c .before .before in
-    rw (← b .before .before .peek .ensures, ← b .before .peek2 .ensures, ← b .is-digit .ensures, c .before .if1 .left) (c .whole .ensures)
+    ⊎-elim (λ w. rw (← w .1 .ensures, ← w .2 .ensures, w .3 .left, and-false) (c .whole .ensures))
+    (λ w. rw (← c .before .before .peek .ensures, ne-eqb _ _ (w .left)) (c .whole .ensures)) (c .before .if1 .came)
 
 pub lex-precision-spec : {M : Type 1} → statement M
 lex-precision-spec = tie.close (tie.spec

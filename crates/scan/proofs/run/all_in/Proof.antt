@@ -20,7 +20,7 @@ abbrev μ-loop : tie.MeasureT-loop
 loop-again : tie.Need-loop-again Inv-loop μ-loop
 loop-again c =
     let l = c .before .before .before .before .loop in
-    (omega arith, rw (c .in-run .ensures) (pairs-turn (inRun _) _ (l .all) (l .i) (l .inv .1) (l .inv .0) (c .before .before .before .loop-test .taken)))
+    (omega arith, rw (c .in-other .ensures) (pairs-turn (inRun _) _ (l .all) (l .i) (l .inv .1) (l .inv .0) (c .before .before .before .loop-test .taken)))
 
 pub all-in-spec : {M : Type 1} → statement M
 all-in-spec = tie.close (tie.spec

@@ -23,10 +23,11 @@ abbrev μ-loop : tie.MeasureT-loop
 -- the byte is a digit or a letter, by either branch
 letter : (c : tie.Joined1 Inv-loop μ-loop) → let l = c .before .before .before in
     let a = byte (l .before .before .args .s .now) (l .loop .i) in isDigit a || isLowerAlpha a ≡ true
-letter c = ⊎-elim (λ w. low-one _ _ (w .1 .ensures) (w .2 .left)) (λ w. high-one _ (w .0 .left) (w .1 .left)) (c .if1 .came)
+letter c = ⊎-elim (λ w. low-one _ _ (w .1 .ensures) (w .2 .left)) (λ w. high-one _ _ (w .1 .ensures) (w .2 .left) (w .0 .left)) (c .if1 .came)
 
 pub letters-end-spec : {M : Type 1} → statement M
 letters-end-spec = tie.close (tie.spec
-    Inv-loop μ-loop (λ c. refl) (λ c. search needs) (λ c κs. search needs) (λ c. search (loop-stop, low-none)) (λ c. search (loop-stop, high-none))
+    Inv-loop μ-loop (λ c. refl) (λ c. search needs) (λ c κs. search needs) (λ c. search (loop-stop, low-none)) (λ c κs. search needs)
+    (λ c. search (loop-stop, high-none))
     (λ c. search needs) (λ c. search needs)
     (λ c. let l = c .before .before in loop-step inLetters _ _ _ (l .before .loop .inv) (l .loop-test .taken) (letter c)) (λ c. search loop-end))

@@ -22,7 +22,7 @@ turn d = d .before .before .before
 returns-2 : tie.Need-returns-2 Inv-loop μ-loop
 returns-2 c =
     let b = turn (c .before .before .before .before) in
-    (rw rest-is at (c .reach-long .ensures)) ∙ (reach-step (inRun _) _ _ (b .loop-test .taken) (cc) ∙ b .before .loop .inv)
+    (rw rest-is at (c .reach-on .ensures)) ∙ (reach-step (inRun _) _ _ (b .loop-test .taken) (cc) ∙ b .before .loop .inv)
 
 pub reach-run-spec : {M : Type 1} → statement M
 reach-run-spec = tie.close (tie.spec

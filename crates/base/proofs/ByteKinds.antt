@@ -4,10 +4,9 @@ use mathlib.Core.Path.{_≡_, refl}
 use mathlib.Core.Bool.{Bool, true, false, not, _&&_}
 use Prim.Native.Nat.{ℕ, _+_, _*_, _/_, _%_, _^_, _<_}
 use Prim.Native.Char.{code}
-use native.Mathlib.Nat.{mod-lt, div-add-mod}
+use native.Mathlib.Nat.{mod-lt, div-add-mod, div-lt-iff-lt-mul}
 use native.Mathlib.Omega.{arith}
-use borrow.Author.Tests.{ltb-true}
-use lib.Bits.{bitAnd, bitOr}
+use lib.Bits.{bitOr}
 use lib.Dec.{T, eqb, eqb→eq, leb, ltb, lit<}
 use Rattle.base.specs.Classes.{isDigit, isLowerAlpha, isIdentStart, isIdentPart, isDurationUnit}
 use Rattle.base.specs.Kinds.{kindOf, isLetter, beginsUnit, sumOfKinds, TableOfKinds}
@@ -39,10 +38,6 @@ agreed false false t = refl
 tests-agree : (f g : ℕ → Bool) → T (all (λ (k : ℕ). agree (f k) (g k)) 256) → (b : ℕ) → b < 256 → f b ≡ g b
 tests-agree f g t b h = agreed (f b) (g b) (all-below (λ (k : ℕ). agree (f k) (g k)) 256 t b h)
 
--- the last six bits of a byte
-pub low-six : (b : ℕ) → b < 256 → bitAnd b 63 < 64
-low-six b h = ltb-true _ _ (tests-agree (λ (k : ℕ). ltb (bitAnd k 63) 64) (λ (k : ℕ). true) tt b h)
-
 -- ---- four rows of sixteen entries make the word of 64
 
 abbrev joined : ℕ → ℕ → ℕ → ℕ → ℕ
@@ -70,7 +65,7 @@ pub four-rows : (k q : ℕ) → k < 4 → q < 4 → (b w x y z : ℕ) → b / 64
 four-rows k q u l b w x y z e f g h i = rw (e, f, g, h, i) (rows-join k q u l)
 
 quarter-lt : (b : ℕ) → b < 256 → b / 64 < 4
-quarter-lt b h = ltb-true _ _ (tests-agree (λ (i : ℕ). ltb (i / 64) 4) (λ (i : ℕ). true) tt b h)
+quarter-lt b h = div-lt-iff-lt-mul (lit< tt) .1 h
 
 -- the same in the last case, where the three before it do not hold
 pub last-rows : (k : ℕ) → k < 4 → (b w x y z : ℕ) → b < 256 → (b / 64 ≡ 0 → ⊥) → (b / 64 ≡ 1 → ⊥) → (b / 64 ≡ 2 → ⊥) → w ≡ maskOf (2 ^ k) 192 16

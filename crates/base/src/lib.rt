@@ -1,5 +1,7 @@
 // What every crate shares: bytes read from a slice, the table of byte kinds and the tests of bytes, and stores. The definitions and laws that all
 // crates cite stand in specs/ and proofs/.
+#![tactic(auto)]
+
 ghost use Rattle.std.specs.Prelude.{◌≡◌, ◌+◌, ◌≤◌, ◌<◌, length, take, drop};
 ghost use Rattle.std.proofs.lemmas.List.Edits.{sets};
 ghost use Rattle.base.specs.Bytes.{byte};

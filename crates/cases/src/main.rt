@@ -1,5 +1,7 @@
 // Answers the questions of the conformance list, which it reads from standard input: it prints each line as it is, and after each `text` what
 // `read_text`, `read_token`, `place_of` or `rfc3339::parse::parse` answers, in the list's form, and `end`.
+#![tactic(auto)]
+
 mod escaped;
 
 ghost use Rattle.std.specs.Prelude.{◌*◌, ◌≤◌, length};
@@ -26,7 +28,7 @@ const STRINGS: usize = 512;
 const REPORTS: usize = 512 * REPORT_WIDTH;
 
 // What is asked of a text: its whole reading, the token after a place, the place of an offset, or the instant that it names as a timestamp's run.
-#[derive(Drop)]
+#[derive(Clone, Copy)]
 enum Asked {
     Whole,
     OneToken(Place),
@@ -35,7 +37,7 @@ enum Asked {
 }
 
 // How a text is read, what is asked of it, and how long the buffers are.
-#[derive(Drop)]
+#[derive(Clone, Copy)]
 struct How {
     mode: Reading,
     limit: usize,
@@ -246,7 +248,7 @@ fn answer_line(line: &[u8], how: How)
 }
 
 // The place or the lengths of buffers that a line asks for are its three numbers.
-#[derive(Drop)]
+#[derive(Clone, Copy)]
 struct Three {
     a: u64,
     b: u64,

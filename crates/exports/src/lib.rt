@@ -1,4 +1,6 @@
 // Leaf functions exported for the comparison with the Rust.
+#![tactic(auto)]
+
 ghost use Rattle.std.specs.Prelude.{◌≡◌};
 ghost use Rattle.go_duration.specs.Parse.{parse_of};
 ghost use Rattle.utf8.specs.Grammar.{valid_to};

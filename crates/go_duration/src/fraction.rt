@@ -12,7 +12,7 @@ const INFINITE: usize = 309;
 // What has been read of a fraction's digits: the number that the kept ones form, how many those
 // are, how many digits there are, whether some were dropped, and 1.0 multiplied `kept` times by
 // 10.0.
-#[derive(Drop)]
+#[derive(Clone, Copy)]
 pub struct Fraction {
     pub f: u64,
     pub kept: usize,

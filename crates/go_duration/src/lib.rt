@@ -1,4 +1,6 @@
 // The nanoseconds of a duration, as go_duration.rs reads them.
+#![tactic(auto)]
+
 pub mod fraction;
 pub mod parse;
 pub mod part;

@@ -8,14 +8,14 @@ use crate::MOST;
 use crate::part::Part;
 
 // The sum of the parts.
-#[derive(Drop)]
+#[derive(Clone, Copy)]
 pub enum Total {
     Sum(u64),
     Bad,
 }
 
 // What a run of bytes is as a duration.
-#[derive(Drop)]
+#[derive(Clone, Copy)]
 pub enum Parsed {
     Nanos(i64),
     Bad,

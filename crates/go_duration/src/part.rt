@@ -13,7 +13,7 @@ use crate::fraction::{Fraction, leading_fraction};
 // So many of the largest unit, an hour, stay below 2^63: no division is needed to see that.
 const SMALL: u64 = 2097151;
 
-#[derive(Drop)]
+#[derive(Clone, Copy)]
 pub enum Part {
     // The part's nanoseconds, and how many bytes it has.
     Value { nanos: u64, used: usize },
@@ -21,7 +21,7 @@ pub enum Part {
 }
 
 // The whole number at the front of a part.
-#[derive(Drop)]
+#[derive(Clone, Copy)]
 pub enum Whole {
     // The number, and how many digits it has.
     Number { value: u64, used: usize },
@@ -30,7 +30,7 @@ pub enum Whole {
 }
 
 // What follows the whole number: the fraction, and where it ends.
-#[derive(Drop)]
+#[derive(Clone, Copy)]
 struct After {
     digits: Fraction,
     end: usize,

@@ -1,4 +1,6 @@
 // What the lexers of all kinds answer: a token at the front of the rest of a text, with lengths and offsets relative to its start.
+#![tactic(auto)]
+
 ghost use Rattle.std.specs.Prelude.{◌≡◌, ◌+◌, ◌≤◌, ◌<◌, length};
 ghost use Rattle.std.proofs.lemmas.List.Edits.{sets};
 ghost use Rattle.token.specs.Layout.{report_width, report_numbers};
@@ -12,7 +14,7 @@ use token::place::Place;
 use token::reason;
 
 // Strict reading refuses what is open or badly escaped; tolerant reading recovers and reports.
-#[derive(Drop)]
+#[derive(Clone, Copy)]
 pub enum Mode {
     Strict,
     Tolerant,
@@ -21,7 +23,7 @@ pub enum Mode {
 // A token of `len` bytes. Its value is `size` bytes from `value` on, a String's the `size` decoded bytes; its precision is `digits` bytes from
 // `precision` on. `reports` counts its reports. Numbers that are neighbours in a record are none here: else the compiler loads two at once,
 // which waits for both to be stored.
-#[derive(Drop)]
+#[derive(Clone, Copy)]
 pub struct Lexeme {
     pub kind: TokenKind,
     pub reason: usize,

@@ -7,7 +7,7 @@ use base::class::{is_digit, is_ident_start};
 use base::peek;
 use token::kind::TokenKind;
 
-#[derive(Drop)]
+#[derive(Clone, Copy)]
 pub enum Class {
     Newline,
     LineComment,

@@ -1,4 +1,6 @@
 // One token from a place of the text (lexer.rs, `next_token`), and what it lays into the buffers.
+#![tactic(auto)]
+
 pub mod class;
 pub mod lex;
 pub mod next;

@@ -16,7 +16,7 @@ use token::kind::TokenKind;
 use token::place::{Place, walk};
 
 // A token relative to its start, and where it starts.
-#[derive(Drop)]
+#[derive(Clone, Copy)]
 pub struct Found {
     pub start: usize,
     pub lexeme: Lexeme,
@@ -24,7 +24,7 @@ pub struct Found {
 
 // A token with its places. Its value is `size` bytes of the text from `value` on, but a String's lies in the string buffer; its precision is
 // `digits` bytes of the text from `precision` on.
-#[derive(Drop)]
+#[derive(Clone, Copy)]
 pub struct Token {
     pub kind: TokenKind,
     pub reason: usize,

@@ -7,7 +7,7 @@ use crate::lex::lex_one;
 use lexeme::{Lexeme, Mode};
 
 // A reading is strict or tolerant.
-#[derive(Drop)]
+#[derive(Clone, Copy)]
 pub enum Reading {
     Strict,
     Tolerant,

@@ -1,4 +1,6 @@
 // The two sizes of limits.rs that bound a text and a bytes literal. Each has a function that ties it to its definition.
+#![tactic(auto)]
+
 ghost use Rattle.std.specs.Prelude.{◌≡◌};
 ghost use Rattle.limits.specs.Limits.{max_message_size, max_bytes_literal_length};
 

@@ -1,4 +1,6 @@
 // Prints the listing of the text on standard input, which has at most 8,192 bytes.
+#![tactic(auto)]
+
 ghost use Rattle.std.specs.Prelude.{◌≤◌, length};
 ghost use Rattle.listing_lines.specs.Listing.{Prints, Suffice};
 

@@ -1,4 +1,6 @@
 // The listing of a text, written to a lent buffer: one token a line, or `refused` and the number.
+#![tactic(auto)]
+
 ghost use Rattle.std.specs.Prelude.{◌≡◌, ◌+◌, ◌*◌, ◌≤◌, length, drop};
 ghost use Rattle.std.proofs.lemmas.List.Edits.{sets};
 ghost use Rattle.limits.specs.Limits.{max_message_size};
@@ -20,7 +22,7 @@ use token::layout::RECORD_WIDTH;
 use token::place::Place;
 
 // What listing a text answers.
-#[derive(Drop)]
+#[derive(Clone, Copy)]
 pub enum Listed {
     // How many bytes were written.
     Bytes(usize),

@@ -1,5 +1,7 @@
 // The C interface of the token reader: each function calls one public call, returns the documents' number of its answer, and sets all six numbers
 // of `answer`; but for `pxf_interface`, which gives the interface's own number, and `pxf_byte_kind`, which gives an entry of a table.
+#![tactic(auto)]
+
 mod answer;
 pub mod interface;
 pub mod kinds;

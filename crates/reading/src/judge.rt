@@ -7,7 +7,7 @@ use limits::message_limit;
 use utf8::check::{Verdict, check};
 
 // Whether a text is one that is read.
-#[derive(Drop)]
+#[derive(Clone, Copy)]
 pub enum Judged {
     Fit,
     Unfit(Refusal),

@@ -1,4 +1,6 @@
 // The public calls on a text: the whole reading, one token from a place, and the place of an offset.
+#![tactic(auto)]
+
 pub mod judge;
 pub mod one;
 pub mod place;

@@ -14,7 +14,7 @@ use token::layout::{RECORD_WIDTH, REPORT_WIDTH};
 use token::place::{Place, walk};
 
 // What reading one token answers.
-#[derive(Drop)]
+#[derive(Clone, Copy)]
 pub enum ReadToken {
     // How many string bytes and reports were written, and the place at the token's end.
     One {

@@ -9,7 +9,7 @@ use token::place::{Place, walk};
 use utf8::check::is_inside;
 
 // What the place of an offset answers.
-#[derive(Drop)]
+#[derive(Clone, Copy)]
 pub enum PlaceOf {
     At(Place),
     Refused(Refusal),

@@ -17,7 +17,7 @@ use token::layout::{RECORD_WIDTH, REPORT_WIDTH};
 use token::place::Place;
 
 // What the whole reading answers.
-#[derive(Drop)]
+#[derive(Clone, Copy)]
 pub enum ReadText {
     // How many tokens, string bytes and reports were written.
     Counts {
@@ -45,7 +45,7 @@ impl ReadText {
 }
 
 // How many tokens, string bytes and reports a text has.
-#[derive(Drop)]
+#[derive(Clone, Copy)]
 pub struct TextCounts {
     pub tokens: usize,
     pub strings: usize,

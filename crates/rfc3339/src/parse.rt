@@ -7,7 +7,7 @@ use crate::rules::{Field, fraction_end, full_date, hour_end, partial_time, time_
 use base::peek;
 
 // What a run of bytes is as a date-time: the whole seconds from 1970-01-01T00:00:00Z, rounded down, and the nanoseconds after them.
-#[derive(Drop)]
+#[derive(Clone, Copy)]
 pub enum Instant {
     Date { seconds: i64, nanos: usize },
     NoDate,

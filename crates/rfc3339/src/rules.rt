@@ -9,7 +9,7 @@ use base::digits::digits_end;
 use base::peek;
 
 // What a rule finds: its number, or that the bytes are not as it says.
-#[derive(Drop)]
+#[derive(Clone, Copy)]
 pub enum Field {
     Number(usize),
     Bad,

@@ -9,7 +9,7 @@ use token::reason;
 use utf8::check::char_end;
 
 // Where a bytes literal stops, so many bytes after its opening quote.
-#[derive(Drop)]
+#[derive(Clone, Copy)]
 pub enum Stop {
     // The limit is passed.
     Over(usize),

@@ -10,7 +10,7 @@ use base::find::BLOCK;
 use base::kinds::{DIGIT, NAME, reach_kind};
 
 // The runs that lexer.rs knows.
-#[derive(Drop)]
+#[derive(Clone, Copy)]
 pub enum Run {
     // Spaces, tabs and carriage returns.
     Blank,

@@ -24,7 +24,7 @@ use utf8::check::is_inside;
 use utf8::state::State;
 
 // How a literal ends.
-#[derive(Drop)]
+#[derive(Clone, Copy)]
 pub enum End {
     Closed,
     AtNewline,
@@ -34,7 +34,7 @@ pub enum End {
 }
 
 // One step, with what the mode makes of it.
-#[derive(Drop)]
+#[derive(Clone, Copy)]
 pub enum Step {
     // The first `n` of a, b, c, d are decoded, from `used` bytes of text. `reason` is none, or that of a report, whose letter is b.
     Go {
@@ -54,7 +54,7 @@ pub enum Step {
 }
 
 // What a literal is: how many bytes it decodes to, how many bad escapes it reports, where and how it ends, and whether its bytes are UTF-8.
-#[derive(Drop)]
+#[derive(Clone, Copy)]
 pub struct Measure {
     pub count: usize,
     pub reports: usize,
@@ -64,7 +64,7 @@ pub struct Measure {
 }
 
 // A part of a literal: it ends at `end` and stands for `count` bytes.
-#[derive(Drop)]
+#[derive(Clone, Copy)]
 struct Part {
     end: usize,
     count: usize,

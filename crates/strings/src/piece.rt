@@ -8,7 +8,7 @@ use token::reason;
 use utf8::character::encode;
 
 // What stands at the front of the rest of a literal, after the opening quote.
-#[derive(Drop)]
+#[derive(Clone, Copy)]
 pub enum Piece {
     // `used` bytes of text that stand for the first `n` of the bytes a, b, c, d.
     Bytes {

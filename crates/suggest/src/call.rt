@@ -7,7 +7,7 @@ use suggestion_list::ENTRY_WIDTH;
 use utf8::check::{Verdict, check};
 
 // What the call answers.
-#[derive(Drop)]
+#[derive(Clone, Copy)]
 pub enum Suggested {
     // How many entries were written.
     Entries(usize),

@@ -1,4 +1,6 @@
 // Suggestions for a mistyped duration: every replacement of one byte after which a strict reading sees one Duration and nothing else.
+#![tactic(auto)]
+
 pub mod call;
 mod candidates;
 mod pieces;

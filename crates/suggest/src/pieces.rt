@@ -17,7 +17,7 @@ const LEAST: i64 = -9223372036854775808;
 const GREATEST: i64 = 9223372036854775807;
 
 // The piece of a text that changes, from `start` to `end`, and what is seen before and after it.
-#[derive(Drop)]
+#[derive(Clone, Copy)]
 pub struct Around {
     pub start: usize,
     pub end: usize,

@@ -8,7 +8,7 @@ use lexeme::Lexeme;
 use lexer::reading::{Reading, lex_in};
 use scan::run::{Run, reach_run};
 
-#[derive(Drop)]
+#[derive(Clone, Copy)]
 pub enum Seen {
     // One Duration of so many nanoseconds and, but for the Eof, nothing else.
     Duration(i64),

@@ -1,6 +1,8 @@
 // Answers the stored questions for suggestions, one a line of standard input:
 //   ROOM HEX   suggests for the run of these bytes, at most 66, into a list of ROOM numbers, at most 2,400, all 77 before
 // For each it prints a line: the answer's number and value, and the numbers of the list after the call.
+#![tactic(auto)]
+
 use notation::numbers::put_number;
 use notation::parse;
 

@@ -1,4 +1,6 @@
 // Suggestions, kept in order in a slice of numbers.
+#![tactic(auto)]
+
 ghost use Rattle.std.specs.Prelude.{◌≡◌, ◌+◌, ◌*◌, ◌≤◌, ◌<◌, length};
 ghost use Rattle.suggestion_list.specs.Rows.{entry_width};
 ghost use Rattle.suggestion_list.specs.Helpers.{Place, Moved, Added};
@@ -7,7 +9,7 @@ ghost use Rattle.suggestion_list.specs.Helpers.{Place, Moved, Added};
 pub const ENTRY_WIDTH: usize = 3;
 
 // A replacement that counts: the nanoseconds that it gives, the offset of the byte that is replaced, and the byte that takes its place.
-#[derive(Drop)]
+#[derive(Clone, Copy)]
 pub struct Suggestion {
     pub nanos: i64,
     pub offset: usize,

@@ -21,7 +21,7 @@ const DURATION: usize = 12;
 // The last number.
 pub const LAST: usize = 25;
 
-#[derive(Drop)]
+#[derive(Clone, Copy)]
 pub enum TokenKind {
     Eof,
     Illegal,

@@ -10,7 +10,7 @@ pub const RECORD_WIDTH: usize = 12;
 pub const REPORT_WIDTH: usize = 5;
 
 // What a token record says.
-#[derive(Drop)]
+#[derive(Clone, Copy)]
 pub struct Record {
     pub kind: usize,
     pub reason: usize,
@@ -51,7 +51,7 @@ impl Record {
 }
 
 // What a report says.
-#[derive(Drop)]
+#[derive(Clone, Copy)]
 pub struct Report {
     pub reason: usize,
     pub detail: usize,

@@ -4,7 +4,7 @@ ghost use Rattle.token.specs.Place.{first_place, step_place, place_at};
 ghost use Rattle.token.specs.Helpers.{Steppable, Walkable};
 
 // A byte's offset, and the line and the column at which it stands. Columns count bytes.
-#[derive(Drop)]
+#[derive(Clone, Copy)]
 pub struct Place {
     pub offset: usize,
     pub line: usize,

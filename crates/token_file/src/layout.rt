@@ -7,7 +7,7 @@ ghost use Rattle.token_file.specs.Fits.{Narrow};
 pub const HEADER_WIDTH: usize = 9;
 
 // How many bytes each kept number of a token has, in the file's order.
-#[derive(Drop)]
+#[derive(Clone, Copy)]
 pub struct Layout {
     pub version: usize,
     pub kind: usize,

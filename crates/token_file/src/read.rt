@@ -14,7 +14,7 @@ use crate::{number, row};
 use token::layout::RECORD_WIDTH;
 
 // What reading a token file answers.
-#[derive(Drop)]
+#[derive(Clone, Copy)]
 pub enum Loaded {
     // How many tokens were read.
     Count(usize),

@@ -11,7 +11,7 @@ use token::{kind, reason};
 // The last line and the last column: both count from 1.
 const LAST_PLACE: usize = MAX_MESSAGE_SIZE + 1;
 
-#[derive(Drop)]
+#[derive(Clone, Copy)]
 pub struct Row {
     pub kind: usize,
     pub reason: usize,

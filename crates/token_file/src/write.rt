@@ -16,7 +16,7 @@ use token::layout::RECORD_WIDTH;
 const LARGEST_COLUMN: usize = 65535;
 
 // What writing a token file answers.
-#[derive(Drop)]
+#[derive(Clone, Copy)]
 pub enum Written {
     // How many bytes were written.
     Bytes(usize),

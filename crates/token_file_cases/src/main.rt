@@ -2,6 +2,8 @@
 //   w COUNT ROOM NUMBER NUMBER ..   writes the records of these numbers into a buffer of ROOM bytes, all 170 before
 //   r ROOM HEX                      reads the file of these bytes into a slice of ROOM numbers, all 77 before
 // For each it prints the answer's number and value, and the buffer after the call.
+#![tactic(auto)]
+
 use notation::parse;
 
 fn show_bytes(b: &[u8]) {

@@ -1,4 +1,6 @@
 // Triple-quoted strings: where they end, and their dedent.
+#![tactic(auto)]
+
 mod dedent;
 pub mod lex;
 mod lines;

@@ -84,7 +84,7 @@ pub fn char_size(s: &[u8]) -> usize
 }
 
 // A code point, and how many bytes its character has.
-#[derive(Drop)]
+#[derive(Clone, Copy)]
 pub struct Character {
     pub code: u32,
     pub size: usize,
@@ -122,7 +122,7 @@ pub fn decode(s: &[u8]) -> Character
 }
 
 // The first `len` of four bytes.
-#[derive(Drop)]
+#[derive(Clone, Copy)]
 pub struct Encoded {
     pub len: usize,
     pub a: u8,

@@ -8,7 +8,7 @@ use crate::character::{char_size, is_tail};
 use crate::short::past_short;
 
 // Whether a text is UTF-8.
-#[derive(Drop)]
+#[derive(Clone, Copy)]
 pub enum Verdict {
     WellFormed,
     // The offset of the first byte of the first ill-formed sequence.

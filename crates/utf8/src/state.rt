@@ -6,7 +6,7 @@ ghost use Rattle.utf8.specs.State.{fresh, length_of, lead_of, push};
 
 // What the character that has begun still wants: `need` bytes more, the next of them from `lo` to `hi`.
 // `need` 0: between characters. `need` 4: ill-formed, and it stays so.
-#[derive(Drop)]
+#[derive(Clone, Copy)]
 pub struct State {
     pub need: u8,
     pub lo: u8,

@@ -1,0 +1,21 @@
+-- `row` is `mask_of`: a turn of the loop is a clause of it. Assumes nothing.
+use mathlib.Core.Path.{◌≡◌, refl}
+use Prim.Native.Nat.{suc, ◌+◌, ◌-◌}
+use native.Mathlib.Omega.{arith}
+use Rattle.base.specs.Masks.{mask_of}
+use Rattle.base.proofs.kinds.row.Goals as goal
+
+pub loop-i-init : goal.loop-i-init
+unfolding mask_of
+loop-i-init c = (omega arith, refl)
+
+pub loop-i-preserved : goal.loop-i-preserved
+unfolding mask_of
+loop-i-preserved c = let l = c.loop-i in
+    let q : l.i + 1 ≡ suc l.i = omega arith in
+    (omega arith, rw (q, c.requires.0, l.invariant.1))
+
+pub returns : goal.returns
+returns c = let l = c.loop-i in
+    let e : l.i ≡ 16 = omega (arith, l.invariant.0) in
+    rw e at l.invariant.1

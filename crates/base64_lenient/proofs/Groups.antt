@@ -1,0 +1,222 @@
+-- For the functions of decode.rt: characters in groups of four. The values of the next four, the bytes of at most four values, and a buffer to which the
+-- bytes of a run go group by group. By the laws of stores and the cases of a group. Assumes nothing.
+use mathlib.Core.Path.{◌≡◌, refl, sym, ap, ◌∙◌}
+use mathlib.Core.Bool.{true, ◌&&◌}
+use mathlib.Core.List.{List, [], ◌∷◌, ◌++◌, append-nil}
+use Prim.Native.Nat.{ℕ, zero, suc, ◌+◌, ◌*◌, ◌/◌, ◌%◌, ◌≤◌, ◌<◌}
+use native.Mathlib.Numerals.{add-one}
+use native.Mathlib.Omega.{arith}
+use borrow.Author.Tests.{ltb-true, ltb-false, eqb-true, eqb-false}
+use lib.Dec.{ltb, eqb, lit<}
+use lib.ListN.{length, take, drop, set, get_or, replicate, length-set, drop_of_length-le}
+use lib.Seq.{sets, length-sets, drop-cons, take-suc-set, append_snoc, get_or-set_same, get_or-set_other}
+use Rattle.base.specs.Bytes.{byte}
+use Rattle.base.proofs.Tests.{by_cases, and_left, and_right}
+use Rattle.base.proofs.Stores.{empty}
+use Rattle.base.proofs.Storings.{Storing, storing_room, storing_more, storing_end}
+use Rattle.base64_lenient.specs.Rfc4648.{pad}
+use Rattle.base64_lenient.specs.Lenient.{six_bits, regroup}
+use Rattle.base64_lenient.specs.Helpers.{values_of, bytes_from, Gathered, NextGroup, WholeGroups}
+use Rattle.base64_lenient.specs.declared.decode.Group.{Group}
+use Rattle.base64_lenient.proofs.Values.{has_value_lem, no_value, pad_ends}
+
+-- ---- four of a list
+
+-- the next four elements
+cut_four : (s : List ℕ) (i : ℕ) → i + 4 ≤ length s → drop i s ≡ byte s i ∷ byte s (i + 1) ∷ byte s (i + 2) ∷ byte s (i + 3) ∷ drop (i + 4) s
+cut_four s i h =
+    let e₁ : i + 1 ≡ suc i = omega arith in
+    let e₂ : i + 2 ≡ suc (suc i) = omega arith in
+    let e₃ : i + 3 ≡ suc (suc (suc i)) = omega arith in
+    let e₄ : i + 4 ≡ suc (suc (suc (suc i))) = omega arith in
+    rw (
+      e₁,
+      e₂,
+      e₃,
+      e₄,
+      drop-cons s i 0 (omega arith),
+      drop-cons s (suc i) 0 (omega arith),
+      drop-cons s (suc (suc i)) 0 (omega arith),
+      drop-cons s (suc (suc (suc i))) 0 (omega arith),
+    )
+
+-- a list of four
+four_of : (v : List ℕ) → length v ≡ 4 → v ≡ byte v 0 ∷ byte v 1 ∷ byte v 2 ∷ byte v 3 ∷ []
+four_of v h = cut_four v 0 (omega arith) ∙ rw (drop_of_length-le v {i = 4} (omega arith))
+
+-- ---- the bytes of at most four values
+
+module _ (v : List ℕ) (h : length v ≡ 4) where
+  pub bytes_size : (n : ℕ) → n ≤ 4 → length (regroup (take n v)) ≡ n * 3 / 4
+  unfolding regroup
+  bytes_size zero l = refl
+  bytes_size (suc zero) l = rw (four_of v h)
+  bytes_size (suc (suc zero)) l = rw (four_of v h)
+  bytes_size (suc (suc (suc zero))) l = rw (four_of v h)
+  bytes_size (suc (suc (suc (suc zero)))) l = rw (four_of v h)
+  bytes_size (suc (suc (suc (suc (suc n))))) l = absurd (omega arith)
+
+  pub no_byte : (n : ℕ) → n < 2 → regroup (take n v) ≡ []
+  no_byte n l = empty (regroup (take n v)) (omega (arith, bytes_size n (omega arith)))
+
+  pub one_byte_lem : regroup (take 2 v) ≡ (byte v 0 * 4 + byte v 1 / 16) ∷ []
+  unfolding regroup
+  one_byte_lem = rw (four_of v h)
+
+  pub two_bytes : regroup (take 3 v) ≡ (byte v 0 * 4 + byte v 1 / 16) ∷ (byte v 1 % 16 * 16 + byte v 2 / 4) ∷ []
+  unfolding regroup
+  two_bytes = rw (four_of v h)
+
+  pub three_bytes : regroup (take 4 v) ≡ (byte v 0 * 4 + byte v 1 / 16) ∷ (byte v 1 % 16 * 16 + byte v 2 / 4) ∷ (byte v 2 % 4 * 64 + byte v 3) ∷ []
+  unfolding regroup
+  three_bytes = rw (four_of v h)
+
+  -- four values, and then others
+  group_then : (l : List ℕ) → regroup (take 4 v ++ l) ≡ regroup (take 4 v) ++ regroup l
+  unfolding regroup
+  group_then l = rw (four_of v h)
+
+-- ---- the next group
+
+zeros_small : (n k : ℕ) → get_or (replicate n 0) k 0 < 64
+zeros_small zero k = lit< tt
+zeros_small (suc n) zero = lit< tt
+zeros_small (suc n) (suc k) = zeros_small n k
+
+pub gathered_first : (run : List ℕ) (i : ℕ) → i ≤ length run → Gathered run i (replicate 4 0) 0 i
+gathered_first run i h =
+    record { few = omega arith; size = refl; onward = omega arith; inside = h; are = refl; small = zeros_small 4 }
+
+-- nothing is left at the end and before a pad character
+pub none_at_end : (run : List ℕ) (j : ℕ) → length run ≤ j → values_of (drop j run) ≡ []
+unfolding values_of
+none_at_end run j h = rw (drop_of_length-le run h)
+
+module _ (run : List ℕ) (j : ℕ) (l : j < length run) where
+  cut_one : drop j run ≡ byte run j ∷ drop (j + 1) run
+  cut_one = rw (add-one j, drop-cons run j 0 l)
+
+  pub none_at_pad : byte run j ≡ pad → values_of (drop j run) ≡ []
+  none_at_pad e = rw (cut_one, e) (pad_ends (drop (j + 1) run))
+
+  module _ {i count : ℕ} {found : List ℕ} (u : Gathered run i found count j) where
+    pub gathered_skip : (byte run j ≡ pad → ⊥) → (v : ℕ) → v ≡ six_bits (byte run j) → 64 ≤ v → Gathered run i found count (j + 1)
+    gathered_skip n v e h =
+        record {
+          few = u.few;
+          size = u.size;
+          onward = omega (arith, u.onward);
+          inside = omega arith;
+          are = u.are ∙ ap (take count found ++◌) (rw cut_one (no_value (byte run j) (drop (j + 1) run) n (omega arith)));
+          small = u.small;
+        }
+
+    pub gathered_more : count < 4 → (v : ℕ) → v ≡ six_bits (byte run j) → v < 64 → Gathered run i (set found count v) (count + 1) (j + 1)
+    gathered_more h v e s =
+        let t : take (count + 1) (set found count v) ≡ take count found ++ (v ∷ []) = rw (add-one count, take-suc-set found count v (omega (arith, u.size))) in
+        let w : values_of (drop j run) ≡ v ∷ values_of (drop (j + 1) run) = rw (cut_one, e) (has_value_lem (byte run j) (drop (j + 1) run) (omega arith)) in
+        record {
+          few = omega arith;
+          size = simp length-set u.size;
+          onward = omega (arith, u.onward);
+          inside = omega arith;
+          are = u.are ∙ rw (w, t) (sym (append_snoc (take count found) v (values_of (drop (j + 1) run))));
+          small = λ k. by_cases (eqb k count)
+              (λ q. rw (eqb-true k count q, get_or-set_same found count v 0 (omega (arith, u.size))) s)
+              (λ q. rw (get_or-set_other found count k v 0 (eqb-false k count q)) (u.small k));
+        }
+
+-- ---- whole groups
+
+-- four characters together, with their values
+pub record Together (run : List ℕ) (i a b c d : ℕ) : Type 0 where
+  pub inside : i + 4 ≤ length run
+  pub first : a ≡ six_bits (byte run i)
+  pub second : b ≡ six_bits (byte run (i + 1))
+  pub third : c ≡ six_bits (byte run (i + 2))
+  pub fourth : d ≡ six_bits (byte run (i + 3))
+  pub small : (a < 64) × (b < 64) × (c < 64) × (d < 64)
+
+-- as the code tests that they have values
+pub all_small : (a b c d : ℕ) → ((ltb a 64 && ltb b 64) && ltb c 64) && ltb d 64 ≡ true → (a < 64) × (b < 64) × (c < 64) × (d < 64)
+all_small a b c d e =
+    let f = and_left ((ltb a 64 && ltb b 64) && ltb c 64) (ltb d 64) e in
+    let g = and_left (ltb a 64 && ltb b 64) (ltb c 64) f in (
+      ltb-true a 64 (and_left (ltb a 64) (ltb b 64) g),
+      ltb-true b 64 (and_right (ltb a 64) (ltb b 64) g),
+      ltb-true c 64 (and_right (ltb a 64 && ltb b 64) (ltb c 64) f),
+      ltb-true d 64 (and_right ((ltb a 64 && ltb b 64) && ltb c 64) (ltb d 64) e),
+    )
+
+together_bytes : {run : List ℕ} {i a b c d : ℕ} → Together run i a b c d → bytes_from run i ≡ regroup (a ∷ b ∷ c ∷ d ∷ []) ++ bytes_from run (i + 4)
+unfolding regroup
+together_bytes {run} {i} {a} {b} {c} {d} k =
+    let s₃ = byte run (i + 3) ∷ drop (i + 4) run in
+    let s₂ = byte run (i + 2) ∷ s₃ in
+    let s₁ = byte run (i + 1) ∷ s₂ in
+    rw (
+      cut_four run i k.inside,
+      has_value_lem (byte run i) s₁ (omega arith),
+      has_value_lem (byte run (i + 1)) s₂ (omega arith),
+      has_value_lem (byte run (i + 2)) s₃ (omega arith),
+      has_value_lem (byte run (i + 3)) (drop (i + 4) run) (omega arith),
+      k.first,
+      k.second,
+      k.third,
+      k.fourth,
+    )
+
+module _ (run : List ℕ) (i : ℕ) {all out₀ out : List ℕ} {at p : ℕ} (u : Storing all out₀ at (bytes_from run i) out p) where
+  module _ {a b c d : ℕ} (k : Together run i a b c d) where
+    pub together_room : p + 3 ≤ length out
+    unfolding regroup
+    together_room = storing_room u (regroup (a ∷ b ∷ c ∷ d ∷ [])) (bytes_from run (i + 4)) (together_bytes k) refl
+
+    pub together_stored : (o : List ℕ) → o ≡ sets out p (regroup (a ∷ b ∷ c ∷ d ∷ [])) → Storing all out₀ at (bytes_from run (i + 4)) o (p + 3)
+    unfolding regroup
+    together_stored o e = storing_more u (regroup (a ∷ b ∷ c ∷ d ∷ [])) (bytes_from run (i + 4)) (together_bytes k) refl o e
+
+  pub whole_stored : {n : ℕ} {o : List ℕ} → WholeGroups run i out p n o → Storing all out₀ at (bytes_from run (i + n * 4)) o (p + n * 3)
+  whole_stored {n} {o} w =
+      record {
+        same = sym (length-sets o (p + n * 3) (bytes_from run (i + n * 4))) ∙ ap length (sym w.stored) ∙ length-sets out p (bytes_from run i) ∙ u.same;
+        room = omega (arith, w.reached, u.room);
+        reached = omega (arith, w.reached, u.reached);
+        is = u.is ∙ w.stored;
+      }
+
+  -- ---- the group after them
+
+  module _ {g : Group} (w : NextGroup run i g) where
+    abbrev stored : List ℕ
+    stored = regroup (take g.count g.values)
+
+    group_size : length stored ≡ g.count * 3 / 4
+    group_size = bytes_size g.values w.gathered.size g.count w.gathered.few
+
+    few_left : g.count < 4 → bytes_from run g.end ≡ []
+    unfolding regroup
+    few_left h = ap regroup (w.last h)
+
+    group_cut : bytes_from run i ≡ stored ++ bytes_from run g.end
+    unfolding regroup
+    group_cut =
+        by_cases (ltb g.count 4)
+        (λ e. rw (w.gathered.are, w.last (ltb-true g.count 4 e), append-nil (take g.count g.values)) (sym (append-nil stored)))
+        (λ e. let n : g.count ≡ 4 = omega (arith, ltb-false g.count 4 e, w.gathered.few) in
+        ap regroup w.gathered.are ∙ rw n (group_then g.values w.gathered.size (values_of (drop g.end run))))
+
+    pub group_room : p + g.count * 3 / 4 ≤ length out
+    group_room = storing_room u stored (bytes_from run g.end) group_cut group_size
+
+    module _ (o : List ℕ) (e : o ≡ sets out p stored) where
+      more : Storing all out₀ at (bytes_from run g.end) o (p + g.count * 3 / 4)
+      more = storing_more u stored (bytes_from run g.end) group_cut group_size o e
+
+      pub last_stored : g.count < 4 → o ≡ sets out₀ at all
+      last_stored h = storing_end more (few_left h)
+
+      pub group_stored : 4 ≤ g.count → Storing all out₀ at (bytes_from run g.end) o (p + 3)
+      group_stored h =
+          let n : p + g.count * 3 / 4 ≡ p + 3 = omega (arith, w.gathered.few) in
+          rw n at more

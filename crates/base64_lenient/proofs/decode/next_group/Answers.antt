@@ -1,0 +1,59 @@
+-- `next_group` gathers values up to the loop's place. Assumes nothing.
+use mathlib.Core.Path.{◌≡◌}
+use mathlib.Core.Bool.{false, ◌&&◌}
+use mathlib.Core.Logic.{⊎_elim}
+use Prim.Native.Nat.{◌-◌, ◌<◌}
+use native.Mathlib.Omega.{arith}
+use borrow.Author.Tests.{lt-ltb, ltb-true, ltb-false}
+use lib.Dec.{ltb}
+use lib.ListN.{length}
+use Rattle.base.proofs.Tests.{and_left, and_right}
+use Rattle.base64_lenient.proofs.Groups.{gathered_first, gathered_skip, gathered_more, none_at_end, none_at_pad}
+use Rattle.base64_lenient.proofs.decode.next_group.Goals as goal
+use Rattle.base64_lenient.proofs.decode.next_group.Goals.{then-v-lt-NO_VALUE, else-v-lt-NO_VALUE}
+
+pub loop-count-init : goal.loop-count-init
+loop-count-init c = gathered_first _ _ (omega arith)
+
+pub bounds-run-i : goal.bounds-run-i
+bounds-run-i c =
+    let inside : c.loop-count.i < length c.args.run.now = ltb-true _ _ (and_right (ltb c.loop-count.count 4) _ c.loop-count-test.true) in
+    inside
+
+pub returns-then-b-eq61 : goal.returns-then-b-eq61
+returns-then-b-eq61 c =
+    let inside : c.loop-count.i < length c.args.run.now = ltb-true _ _ (and_right (ltb c.loop-count.count 4) _ c.loop-count-test.true) in
+    record { gathered = c.loop-count.invariant; last = λ l. none_at_pad _ _ inside c.if-b-eq61.true }
+
+pub bounds-found-count : goal.bounds-found-count
+bounds-found-count c =
+    let few : c.loop-count.count < 4 = ltb-true _ _ (and_left (ltb c.loop-count.count 4) _ c.loop-count-test.true) in
+    few
+
+pub overflow_add-i : goal.overflow_add-i
+overflow_add-i c =
+    let inside : c.loop-count.i < length c.args.run.now = ltb-true _ _ (and_right (ltb c.loop-count.count 4) _ c.loop-count-test.true) in
+    omega (arith, inside)
+
+pub loop-count-smaller : goal.loop-count-smaller
+loop-count-smaller c =
+    let inside : c.loop-count.i < length c.args.run.now = ltb-true _ _ (and_right (ltb c.loop-count.count 4) _ c.loop-count-test.true) in
+    omega (arith, inside)
+
+pub loop-count-preserved : goal.loop-count-preserved
+loop-count-preserved c =
+    let few : c.loop-count.count < 4 = ltb-true _ _ (and_left (ltb c.loop-count.count 4) _ c.loop-count-test.true) in
+    let inside : c.loop-count.i < length c.args.run.now = ltb-true _ _ (and_right (ltb c.loop-count.count 4) _ c.loop-count-test.true) in
+    let v = c.value_of-v in
+    elim c.if-v-lt-NO_VALUE.branch [
+      then-v-lt-NO_VALUE w ↦
+        rw (w.found-is, w.count-is) (gathered_more _ _ inside c.loop-count.invariant few v.result v.ensures w.if-v-lt-NO_VALUE.true)
+    | else-v-lt-NO_VALUE w ↦
+        rw (w.found-is, w.count-is) (gathered_skip _ _ inside c.loop-count.invariant c.if-b-eq61.false v.result v.ensures w.if-v-lt-NO_VALUE.false)
+    ]
+
+pub returns : goal.returns
+returns c = let l = c.loop-count in
+    let s = c.args.run.now in
+    let e : ltb l.count 4 && ltb l.i (length s) ≡ false = c.loop-count-test.false in
+    record { gathered = l.invariant; last = λ h. none_at_end s l.i (ltb-false l.i (length s) (rw (lt-ltb l.count 4 h) at e)) }

@@ -1,0 +1,22 @@
+-- `put_three` meets its contract: the three stores are those of the list. Assumes nothing.
+use mathlib.Core.Path.{◌≡◌}
+use Prim.Native.Nat.{suc, ◌+◌}
+use native.Mathlib.Omega.{arith}
+use lib.ListN.{length-set}
+use Rattle.base64_lenient.specs.Lenient.{regroup}
+use Rattle.base64_lenient.proofs.decode.put_three.Goals as goal
+
+pub bounds-out-at-2 : goal.bounds-out-at-2
+bounds-out-at-2 c = simp length-set (omega arith)
+
+pub bounds-out-at-3 : goal.bounds-out-at-3
+bounds-out-at-3 c = simp length-set (omega arith)
+
+pub shape_of-out : goal.shape_of-out
+shape_of-out c = simp length-set
+
+pub returns : goal.returns
+unfolding regroup
+returns c = let e₁ : c.args.at + 1 ≡ suc c.args.at = omega arith in
+    let e₂ : c.args.at + 2 ≡ suc (suc c.args.at) = omega arith in
+    rw (e₁, e₂)

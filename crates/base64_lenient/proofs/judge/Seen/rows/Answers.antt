@@ -1,0 +1,28 @@
+-- `rows` meets its contract: what was seen and what is left of the run make the whole, row by row. Assumes nothing.
+use mathlib.Core.Path.{◌≡◌}
+use Prim.Native.Nat.{◌+◌, ◌-◌}
+use native.Mathlib.Omega.{arith}
+use borrow.Author.Rules.{rules}
+use Rattle.base64_lenient.proofs.Sights.{seen_unpadded, seen_row}
+use Rattle.base64_lenient.proofs.judge.Seen.rows.Goals as goal
+
+pub returns-then-self-ne0 : goal.returns-then-self-ne0
+returns-then-self-ne0 c = (c.requires, omega arith)
+
+pub loop-i-init : goal.loop-i-init
+loop-i-init c = (seen_unpadded _ _ _ c.requires c.if-self-ne0.false, omega arith)
+
+pub returns-then-next-eq0 : goal.returns-then-next-eq0
+returns-then-next-eq0 c = rw (c.unpadded.ensures.0, c.unpadded.ensures.1) c.loop-i.invariant
+
+pub loop-i-preserved : goal.loop-i-preserved
+loop-i-preserved c = let l = c.loop-i in
+    let at = c.args.at in
+    let n = c.args.self.characters in
+    let o : n + (l.i - at) + (l.i + 32 - l.i) ≡ n + (l.i + 32 - at) = omega (arith, l.invariant.1) in (
+      rw o at (seen_row _ _ _ _ (l.i + 32) l.invariant.0 (omega arith) (search rules) _ c.alphabets_of.ensures c.if-next-eq0.false),
+      omega (arith, l.invariant.1),
+    )
+
+pub returns : goal.returns
+returns c = rw (c.unpadded-2.ensures.0, c.unpadded-2.ensures.1) c.loop-i.invariant

@@ -1,0 +1,33 @@
+-- `unit_part` is `unit_part`: the rest from `at` on is `drop at`. Assumes nothing.
+use Rattle.std.proofs.Common.{◌≡◌, ℕ, ◌≤◌, List, length, drop, sym, zero-le, arith, length-drop, length-take-le}
+use Rattle.base.specs.Runs.{reach}
+use Rattle.base.proofs.Reaches.{rest_is, reach_le}
+use Rattle.go_duration.specs.Parse.{in_unit}
+use Rattle.go_duration.specs.Stages.{unit_part}
+use Rattle.go_duration.proofs.UnitLaws.{unit_le}
+use Rattle.go_duration.proofs.part.unit_part.Goals as goal
+
+pub slice_bounds-unit_of-end : goal.slice_bounds-unit_of-end
+slice_bounds-unit_of-end c =
+    let rest : List ℕ = let a = c.args in drop a.at a.s.now in
+    let size_is : c.unit_size-size.result ≡ reach in_unit rest 0 = rw rest_is at c.unit_size-size.ensures in
+    let size_le : c.unit_size-size.result ≤ length rest = rw size_is (reach_le in_unit rest 0 zero-le) in
+    rw rest_is (sym (length-take-le c.unit_size-size.result rest size_le))
+
+pub overflow_add-at : goal.overflow_add-at
+overflow_add-at c =
+    let rest : List ℕ = let a = c.args in drop a.at a.s.now in
+    let size_is : c.unit_size-size.result ≡ reach in_unit rest 0 = rw rest_is at c.unit_size-size.ensures in
+    let size_le : c.unit_size-size.result ≤ length rest = rw size_is (reach_le in_unit rest 0 zero-le) in
+    let a = c.args in
+    omega (arith, size_le, length-drop a.at a.s.now)
+
+pub nanos_part-requires : goal.nanos_part-requires
+nanos_part-requires c = record { fact_1 = c.requires.fact_1; fact_2 = rw c.unit_of-unit.ensures (unit_le _) }
+
+pub returns : goal.returns
+unfolding unit_part
+returns c =
+    let rest : List ℕ = let a = c.args in drop a.at a.s.now in
+    let size_is : c.unit_size-size.result ≡ reach in_unit rest 0 = rw rest_is at c.unit_size-size.ensures in
+    rw (← size_is) (rw (c.unit_of-unit.ensures, rest_is) at c.nanos_part.ensures)

@@ -1,0 +1,28 @@
+-- `letters_end` meets its contract: the run from `i` on has the end that the run from `at` has. Assumes nothing.
+use mathlib.Core.Path.{◌≡◌, refl}
+use mathlib.Core.Logic.{⊎_elim}
+use mathlib.Core.Bool.{true, ◌||◌}
+use Prim.Native.Nat.{◌-◌}
+use Rattle.base.specs.Bytes.{byte}
+use Rattle.base.specs.Classes.{is_digit, is_lower_alpha}
+use Rattle.base.proofs.Reaches.{loop_step, loop_stop, loop_end}
+use Rattle.scan.specs.Helpers.{in_letters}
+use Rattle.scan.proofs.Runs.{low_none, high_none, low_one, high_one}
+use Rattle.scan.proofs.run.letters_end.Goals as goal
+
+pub loop-i-init : goal.loop-i-init
+loop-i-init c = refl
+
+pub returns-then-not-is_digit : goal.returns-then-not-is_digit
+returns-then-not-is_digit c = search (loop_stop, low_none)
+
+pub returns-then-not-is_lower_alpha : goal.returns-then-not-is_lower_alpha
+returns-then-not-is_lower_alpha c = search (loop_stop, high_none)
+
+pub loop-i-preserved : goal.loop-i-preserved
+loop-i-preserved c =
+    let letter : let a = byte c.args.s.now c.loop-i.i in is_digit a || is_lower_alpha a ≡ true = ⊎_elim (λ w. low_one _ _ w.1.ensures w.2.left) (λ w. high_one _ _ w.1.ensures w.2.left w.0.left) c.if-a-lt97.branch in
+    loop_step in_letters _ _ _ c.loop-i.invariant c.loop-i-test.true letter
+
+pub returns : goal.returns
+returns c = search loop_end

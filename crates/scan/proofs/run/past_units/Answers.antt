@@ -1,0 +1,49 @@
+-- `past_units` meets its contract: the run from here, behind letters, has the end that the run from `at` has. Assumes nothing.
+use mathlib.Core.Path.{◌≡◌, refl, sym, ◌∙◌}
+use mathlib.Core.Bool.{false, true, ◌&&◌}
+use mathlib.Core.List.{List}
+use mathlib.Core.Logic.{⊎_elim}
+use Prim.Native.Nat.{ℕ, ◌+◌, ◌-◌, ◌<◌}
+use native.Mathlib.Omega.{arith}
+use lib.Dec.{eqb}
+use Rattle.base.specs.Bytes.{byte}
+use Rattle.base.specs.Classes.{is_digit}
+use Rattle.base.specs.Runs.{past}
+use Rattle.base.proofs.Reaches.{reach_ge}
+use Rattle.base.proofs.Walks.{past_end}
+use Rattle.scan.specs.Run.{unit_piece}
+use Rattle.scan.specs.Helpers.{in_letters}
+use Rattle.scan.proofs.Runs.{micro, micro_in, behind, point_turn, two_turn, none_turn}
+use Rattle.scan.proofs.run.past_units.Goals as goal
+
+pub loop-i-init : goal.loop-i-init
+loop-i-init c = behind _ _ _ _ refl c.letters_end-i.ensures
+
+pub overflow_add-i-then-a-b : goal.overflow_add-i-then-a-b
+overflow_add-i-then-a-b c =
+    let text : List ℕ = c.args.s.now in
+    let there : micro text c.loop-i.i ≡ true = cc in
+    let l = micro_in text c.loop-i.i there in omega arith
+
+pub returns-else-a-b : goal.returns-else-a-b
+returns-else-a-b c =
+    let text : List ℕ = c.args.s.now in
+    let no_point : let i = c.loop-i.i in eqb (byte text i) 46 && is_digit (byte text (i + 1)) ≡ false = cc in
+    let e : micro text c.loop-i.i ≡ false = cc in
+    none_turn _ _ _ c.loop-i.invariant c.loop-i-test.true no_point e
+
+pub loop-i-smaller : goal.loop-i-smaller
+loop-i-smaller c =
+    let text : List ℕ = c.args.s.now in
+    let moved : c.loop-i.i < c.if-a-is_digit.i = ⊎_elim (λ w. let e = w.1 in omega arith) (λ w. let e = w.2 in omega arith) c.if-a-is_digit.branch in
+    let e = c.letters_end-i-in-loop-i.ensures in
+    omega (arith, moved, reach_ge in_letters text c.if-a-is_digit.i)
+
+pub loop-i-preserved : goal.loop-i-preserved
+loop-i-preserved c =
+    let text : List ℕ = c.args.s.now in
+    let same : past unit_piece text c.if-a-is_digit.i ≡ past unit_piece text c.args.at = let g = c.loop-i.invariant in let h = c.loop-i-test.true in ⊎_elim (λ w. rw w.1 (point_turn _ _ _ g h cc)) (λ w. let d : tie.Else1 invariant_loop decreases_loop = record { before = c; if1 = w.0 } in rw w.2 (two_turn _ _ _ g h (no_point d) (there (record { before = d; if2 = w.1 })))) c.if-a-is_digit.branch in
+    behind _ _ _ _ same c.letters_end-i-in-loop-i.ensures
+
+pub returns : goal.returns
+returns c = sym (past_end unit_piece _ _ c.loop-i-test.false) ∙ c.loop-i.invariant.same

@@ -1,0 +1,12 @@
+-- `lex_strict` is `lex_string` of a strict literal: each return is a row of it. Assumes nothing.
+use Rattle.strings.proofs.Judges.{strict_bad, strict_ill, strict_string}
+use Rattle.strings.proofs.lex.lex_strict.Goals as goal
+
+pub returns-then-reason-ne-NONE : goal.returns-then-reason-ne-NONE
+returns-then-reason-ne-NONE c = search strict_bad
+
+pub returns-then-need-ne0 : goal.returns-then-need-ne0
+returns-then-need-ne0 c = search strict_ill
+
+pub returns : goal.returns
+returns c = search strict_string

@@ -1,0 +1,68 @@
+-- `measure_literal` measures what is left with what is counted already: a part that is read at once, and then the closing quote or a step.
+-- Assumes nothing.
+use mathlib.Core.Path.{refl, sym, ◌∙◌}
+use Prim.Native.Nat.{◌+◌, ◌-◌}
+use native.Mathlib.Omega.{arith}
+use Rattle.strings.proofs.Decodes.{step_four, step_less}
+use Rattle.strings.proofs.Parts.{spells_ge}
+use Rattle.strings.proofs.Turns.{quote_in, quote_stop, Measuring, measuring_first, measuring_part, measuring_stop, measuring_go, count_in}
+use Rattle.strings.proofs.literal.measure_literal.Goals as goal
+
+pub loop-mode-init : goal.loop-mode-init
+loop-mode-init c = search measuring_first
+
+pub overflow_add-count : goal.overflow_add-count
+overflow_add-count c =
+    let parted : let a = c.args in let r = c.part_at-part.result in Measuring a.mode a.s.now r.end (c.loop-mode.count + r.count) c.loop-mode.reports c.loop-mode.state = measuring_part c.loop-mode.invariant c.part_at-part.ensures in
+    let v = parted in omega (arith, v.few_bytes, v.inside, c.well_formed)
+
+-- ---- the needs
+pub overflow_add-stop : goal.overflow_add-stop
+overflow_add-stop c = omega (arith, quote_in c.args.s.now c.part_at-part.result.end (sym c.peek.ensures ∙ c.if-peek-eq34.true), c.well_formed)
+
+pub returns-then-peek-eq34 : goal.returns-then-peek-eq34
+returns-then-peek-eq34 c =
+    let parted : let a = c.args in let r = c.part_at-part.result in Measuring a.mode a.s.now r.end (c.loop-mode.count + r.count) c.loop-mode.reports c.loop-mode.state = measuring_part c.loop-mode.invariant c.part_at-part.ensures in
+    measuring_stop parted (quote_stop _ _ _ _ c.peek.ensures c.if-peek-eq34.true) refl
+
+pub step_at-st-requires : goal.step_at-st-requires
+step_at-st-requires c =
+    let parted : let a = c.args in let r = c.part_at-part.result in Measuring a.mode a.s.now r.end (c.loop-mode.count + r.count) c.loop-mode.reports c.loop-mode.state = measuring_part c.loop-mode.invariant c.part_at-part.ensures in
+    parted.inside
+
+pub feed-state-requires : goal.feed-state-requires
+feed-state-requires c = search step_four
+
+pub overflow_add-count-in-Go : goal.overflow_add-count-in-Go
+overflow_add-count-in-Go c =
+    let parted : let a = c.args in let r = c.part_at-part.result in Measuring a.mode a.s.now r.end (c.loop-mode.count + r.count) c.loop-mode.reports c.loop-mode.state = measuring_part c.loop-mode.invariant c.part_at-part.ensures in
+    omega (arith, count_in parted c.step_at-st.ensures c.in-Go.is, c.well_formed)
+
+pub overflow_add-reports : goal.overflow_add-reports
+overflow_add-reports c =
+    let parted : let a = c.args in let r = c.part_at-part.result in Measuring a.mode a.s.now r.end (c.loop-mode.count + r.count) c.loop-mode.reports c.loop-mode.state = measuring_part c.loop-mode.invariant c.part_at-part.ensures in
+    let stepped : let a = c.args in let r = c.part_at-part.result in Measuring a.mode a.s.now (r.end + c.in-Go.used) (c.loop-mode.count + r.count + c.in-Go.n) (c.loop-mode.reports + c.report_count-reports.result) c.feed-state.result = measuring_go parted c.step_at-st.ensures c.in-Go.is _ _ c.feed-state.ensures c.report_count-reports.ensures in
+    let v = stepped in omega (arith, v.few_reports, v.inside, c.well_formed)
+
+pub overflow_add-i : goal.overflow_add-i
+overflow_add-i c =
+    let parted : let a = c.args in let r = c.part_at-part.result in Measuring a.mode a.s.now r.end (c.loop-mode.count + r.count) c.loop-mode.reports c.loop-mode.state = measuring_part c.loop-mode.invariant c.part_at-part.ensures in
+    let stepped : let a = c.args in let r = c.part_at-part.result in Measuring a.mode a.s.now (r.end + c.in-Go.used) (c.loop-mode.count + r.count + c.in-Go.n) (c.loop-mode.reports + c.report_count-reports.result) c.feed-state.result = measuring_go parted c.step_at-st.ensures c.in-Go.is _ _ c.feed-state.ensures c.report_count-reports.ensures in
+    omega (arith, stepped.inside, c.well_formed)
+
+pub loop-mode-smaller : goal.loop-mode-smaller
+loop-mode-smaller c =
+    let parted : let a = c.args in let r = c.part_at-part.result in Measuring a.mode a.s.now r.end (c.loop-mode.count + r.count) c.loop-mode.reports c.loop-mode.state = measuring_part c.loop-mode.invariant c.part_at-part.ensures in
+    step_less _ _ _ c.step_at-st.ensures c.in-Go.is parted.inside _ (spells_ge c.part_at-part.ensures.0)
+
+-- after a step that goes on
+pub loop-mode-preserved : goal.loop-mode-preserved
+loop-mode-preserved c =
+    let parted : let a = c.args in let r = c.part_at-part.result in Measuring a.mode a.s.now r.end (c.loop-mode.count + r.count) c.loop-mode.reports c.loop-mode.state = measuring_part c.loop-mode.invariant c.part_at-part.ensures in
+    measuring_go parted c.step_at-st.ensures c.in-Go.is _ _ c.feed-state.ensures
+    c.report_count-reports.ensures
+
+pub returns-in-Stop : goal.returns-in-Stop
+returns-in-Stop c =
+    let parted : let a = c.args in let r = c.part_at-part.result in Measuring a.mode a.s.now r.end (c.loop-mode.count + r.count) c.loop-mode.reports c.loop-mode.state = measuring_part c.loop-mode.invariant c.part_at-part.ensures in
+    search (measuring_stop parted)

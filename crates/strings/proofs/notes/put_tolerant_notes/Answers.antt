@@ -1,0 +1,48 @@
+-- `put_tolerant_notes` stores the reports that are left after those that are stored already: a run of bytes is passed over, and then a step. Assumes nothing.
+use Rattle.strings.proofs.Notings.{noting_first, text_fits, noting_go, to_fits, to_fits_2, note_walks, note_small, note_room}
+use Rattle.strings.proofs.Notings.{note_fits, noting_note, noting_none, end_room, end_fits, noting_end}
+use Rattle.strings.proofs.Decodes.{step_less, run_ge, run_in}
+use Prim.Native.Nat.{◌-◌}
+use Rattle.strings.proofs.notes.put_tolerant_notes.Goals as goal
+
+pub loop-b-init : goal.loop-b-init
+loop-b-init c = search noting_first
+
+pub step_at-st-requires : goal.step_at-st-requires
+step_at-st-requires c = search run_in
+
+pub overflow_add-i : goal.overflow_add-i
+overflow_add-i c = search text_fits
+
+pub loop-b-smaller-then-reason-eq-NONE : goal.loop-b-smaller-then-reason-eq-NONE
+loop-b-smaller-then-reason-eq-NONE c = search (step_less, run_ge, run_in)
+
+pub loop-b-preserved-then-reason-eq-NONE : goal.loop-b-preserved-then-reason-eq-NONE
+loop-b-preserved-then-reason-eq-NONE c = search noting_go
+
+pub overflow_add-first : goal.overflow_add-first
+overflow_add-first c = search to_fits
+
+pub overflow_add-first-in-Go : goal.overflow_add-first-in-Go
+overflow_add-first-in-Go c = search to_fits_2
+
+pub put_note-place-requires : goal.put_note-place-requires
+put_note-place-requires c = search (note_walks, note_small, note_room)
+
+pub overflow_add-p : goal.overflow_add-p
+overflow_add-p c = search note_fits
+
+pub loop-b-smaller : goal.loop-b-smaller
+loop-b-smaller c = search (step_less, run_ge, run_in)
+
+pub loop-b-preserved : goal.loop-b-preserved
+loop-b-preserved c = search noting_note
+
+pub returns-then-reason-eq-NONE-2 : goal.returns-then-reason-eq-NONE-2
+returns-then-reason-eq-NONE-2 c = search noting_none
+
+pub put_report-requires : goal.put_report-requires
+put_report-requires c = search (end_room, end_fits)
+
+pub returns-in-Stop : goal.returns-in-Stop
+returns-in-Stop c = search noting_end

@@ -1,7 +1,0 @@
--- `last_ok` is `last_ok`: its test chooses the definition's case. Assumes nothing.
-use borrow.Author.Tests.{eq-eqb, ne_eqb}
-use Rattle.token_file.proofs.row.last_ok.Statement.{statement}
-use Rattle.token_file.proofs.row.last_ok.Tie as tie
-
-pub last_ok_spec : {M : Type 1} → statement M
-last_ok_spec = tie.close (tie.spec (λ c. rw (eq-eqb _ _ c.before.if1.true)) (λ c. rw (ne_eqb _ _ c.before.if1.false)))

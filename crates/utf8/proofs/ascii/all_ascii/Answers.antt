@@ -1,0 +1,14 @@
+-- `all_ascii` meets its contract: the bytes passed and the bytes left make the whole. Assumes nothing.
+use mathlib.Core.Path.{refl}
+use Rattle.base.proofs.Blocks.{all_turn, all_end}
+use Rattle.utf8.specs.Helpers.{is_ascii}
+use Rattle.utf8.proofs.ascii.all_ascii.Goals as goal
+
+pub loop-i-init : goal.loop-i-init
+loop-i-init c = refl
+
+pub loop-i-preserved : goal.loop-i-preserved
+loop-i-preserved c = let l = c.loop-i in all_turn is_ascii _ l.all l.i l.invariant c.loop-i-test.true
+
+pub returns : goal.returns
+returns c = search all_end

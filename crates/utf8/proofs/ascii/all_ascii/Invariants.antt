@@ -1,0 +1,14 @@
+-- `all_ascii` meets its contract: the bytes passed and the bytes left make the whole. Assumes nothing.
+use mathlib.Core.Path.{◌≡◌}
+use mathlib.Core.Bool.{◌&&◌}
+use Prim.Native.Nat.{◌-◌}
+use lib.ListN.{length, drop}
+use Rattle.base.specs.Blocks.{all_pass}
+use Rattle.utf8.specs.Helpers.{is_ascii}
+use Rattle.utf8.proofs.ascii.all_ascii.Given as goal
+
+abbrev pub invariant-loop-i : goal.invariant-loop-i
+invariant-loop-i l = (l.all && all_pass is_ascii (drop l.i l.s)) ≡ all_pass is_ascii l.s
+
+abbrev pub decreases-loop-i : goal.decreases-loop-i
+decreases-loop-i l = length l.s - l.i

@@ -7,8 +7,6 @@ use Prim.Native.Nat.{ℕ, zero, suc, ◌+◌, ◌≤◌, ◌<◌}
 use native.Mathlib.Nat.{add-zero}
 use native.Mathlib.Numerals.{add-one}
 use native.Mathlib.Omega.{arith}
-use types.Run.{OneOf, miss}
-use denote.Enum.Declared.{tag_of}
 use borrow.Author.Tests.{ltb-true, ltb-false, eqb-true, ne_eqb, not-false}
 use lib.Dec.{ltb, eqb}
 use lib.ListN.{length, drop}
@@ -30,27 +28,26 @@ use Rattle.scan.specs.Run.{ends_timestamp, in_run, unit_piece}
 use Rattle.scan.specs.Helpers.{by_kind, in_letters}
 use Rattle.scan.specs.declared.run.Run.TheVariants as run
 use Rattle.scan.specs.declared.run.Run.{Run}
-use Rattle.scan.specs.contracts.run.Run.{the_type}
 use Rattle.scan.proofs.Flats.{flat_byte}
 
--- a run by the number of its variant, as a `match` tells it: those that no kind of the table tells, and the others
-pub other_arm : (k : Run) → OneOf (0 ∷ 1 ∷ 2 ∷ 5 ∷ []) (tag_of the_type k) → by_kind k ≡ false
+-- a run that is not of these variants: it is one that no kind of the table tells, or one that a kind tells
+pub other_arm : (k : Run) → (k ≡ run.Name → ⊥) → (k ≡ run.Digits → ⊥) → by_kind k ≡ false
 unfolding by_kind
-other_arm run.Blank h = refl
-other_arm run.Line h = refl
-other_arm run.Body h = refl
-other_arm run.Name h = absurd (miss (0 ∷ 1 ∷ 2 ∷ 5 ∷ []) _ tt h)
-other_arm run.Digits h = absurd (miss (0 ∷ 1 ∷ 2 ∷ 5 ∷ []) _ tt h)
-other_arm run.Stamp h = refl
+other_arm run.Blank n d = refl
+other_arm run.Line n d = refl
+other_arm run.Body n d = refl
+other_arm run.Name n d = absurd (n refl)
+other_arm run.Digits n d = absurd (d refl)
+other_arm run.Stamp n d = refl
 
-pub kind_arm : (k : Run) → OneOf (3 ∷ 4 ∷ []) (tag_of the_type k) → by_kind k ≡ true
+pub kind_arm : (k : Run) → (k ≡ run.Blank → ⊥) → (k ≡ run.Line → ⊥) → (k ≡ run.Body → ⊥) → (k ≡ run.Stamp → ⊥) → by_kind k ≡ true
 unfolding by_kind
-kind_arm run.Blank h = absurd (miss (3 ∷ 4 ∷ []) _ tt h)
-kind_arm run.Line h = absurd (miss (3 ∷ 4 ∷ []) _ tt h)
-kind_arm run.Body h = absurd (miss (3 ∷ 4 ∷ []) _ tt h)
-kind_arm run.Name h = refl
-kind_arm run.Digits h = refl
-kind_arm run.Stamp h = absurd (miss (3 ∷ 4 ∷ []) _ tt h)
+kind_arm run.Blank b l o s = absurd (b refl)
+kind_arm run.Line b l o s = absurd (l refl)
+kind_arm run.Body b l o s = absurd (o refl)
+kind_arm run.Name b l o s = refl
+kind_arm run.Digits b l o s = refl
+kind_arm run.Stamp b l o s = absurd (s refl)
 
 -- a piece of one byte, and the two bytes of U+00B5, by an index into the text
 abbrev pub one_byte : List ℕ → ℕ → Bool

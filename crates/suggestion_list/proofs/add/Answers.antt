@@ -9,3 +9,11 @@ use Rattle.base.proofs.Signed.{signed}
 use Rattle.suggestion_list.proofs.Rows.{placed, no_room}
 use Rattle.suggestion_list.proofs.add.Goals as goal
 
+pub returns-then-list-end : goal.returns-then-list-end
+returns-then-list-end c = (refl, no_room _ _ _ c.if-list-end.true)
+
+pub returns : goal.returns
+returns c = let a = c.args in
+    let n : to_z w64 (of_z w64 a.x.nanos) ≡ a.x.nanos = to_z-of_z w64 _ (search rules) in
+    let e = rw (n, signed a.x.offset (omega arith), signed a.x.byte (omega arith)) at c.store.ensures in
+    (refl, placed a.x a.count c.place_for-at.result (rw n at c.place_for-at.ensures) c.make_room.ensures e)

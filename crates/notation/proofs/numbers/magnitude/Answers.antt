@@ -12,27 +12,27 @@ pub overflow_sub-m : goal.overflow_sub-m
 overflow_sub-m c =
     let itself : to_z w64 (of_z w64 c.args.z) ≡ c.args.z = to_z-of_z w64 c.args.z c.ranges.z in
     let below : Turned c.args.z = turned c.args.z c.ranges.z (rw itself at c.if-z-lt0.true) in
-    rw itself below.ranges
+    rw itself below.fits
 
 pub overflow_cast-result : goal.overflow_cast-result
 overflow_cast-result c =
     let itself : to_z w64 (of_z w64 c.args.z) ≡ c.args.z = to_z-of_z w64 c.args.z c.ranges.z in
     let below : Turned c.args.z = turned c.args.z c.ranges.z (rw itself at c.if-z-lt0.true) in
-    let round : let z = negsuc 0 -ℤ c.args.z in to_z w64 (of_z w64 z) ≡ z = to_z-of_z w64 (negsuc 0 -ℤ c.args.z) below.ranges in
+    let round : let z = negsuc 0 -ℤ c.args.z in to_z w64 (of_z w64 z) ≡ z = to_z-of_z w64 (negsuc 0 -ℤ c.args.z) below.fits in
     rw (itself, round) (below.unsigned, record { fits = omega (arith, below.small) })
 
 pub overflow_add-result : goal.overflow_add-result
 overflow_add-result c =
     let itself : to_z w64 (of_z w64 c.args.z) ≡ c.args.z = to_z-of_z w64 c.args.z c.ranges.z in
     let below : Turned c.args.z = turned c.args.z c.ranges.z (rw itself at c.if-z-lt0.true) in
-    let round : let z = negsuc 0 -ℤ c.args.z in to_z w64 (of_z w64 z) ≡ z = to_z-of_z w64 (negsuc 0 -ℤ c.args.z) below.ranges in
+    let round : let z = negsuc 0 -ℤ c.args.z in to_z w64 (of_z w64 z) ≡ z = to_z-of_z w64 (negsuc 0 -ℤ c.args.z) below.fits in
     rw (itself, round) (record { fits = below.small })
 
 pub returns-then-z-lt0 : goal.returns-then-z-lt0
 returns-then-z-lt0 c =
     let itself : to_z w64 (of_z w64 c.args.z) ≡ c.args.z = to_z-of_z w64 c.args.z c.ranges.z in
     let below : Turned c.args.z = turned c.args.z c.ranges.z (rw itself at c.if-z-lt0.true) in
-    let round : let z = negsuc 0 -ℤ c.args.z in to_z w64 (of_z w64 z) ≡ z = to_z-of_z w64 (negsuc 0 -ℤ c.args.z) below.ranges in
+    let round : let z = negsuc 0 -ℤ c.args.z in to_z w64 (of_z w64 z) ≡ z = to_z-of_z w64 (negsuc 0 -ℤ c.args.z) below.fits in
     rw (itself, round) below.back
 
 pub overflow_cast-result-2 : goal.overflow_cast-result-2

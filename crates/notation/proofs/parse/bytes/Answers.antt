@@ -1,7 +1,6 @@
 -- `bytes` is safe and ends. Assumes nothing.
 use native.Mathlib.Omega.{arith}
 use lib.ListN.{length-set}
-use Prim.Native.Nat.{◌-◌}
 use Rattle.notation.proofs.parse.bytes.Goals as goal
 
 pub loop-k-preserved : goal.loop-k-preserved

@@ -1,7 +1,6 @@
 -- `numbers` is safe and ends. Assumes nothing.
 use native.Mathlib.Omega.{arith}
 use lib.ListN.{length-set}
-use Prim.Native.Nat.{◌-◌}
 use Rattle.notation.proofs.parse.numbers.Goals as goal
 
 pub loop-at-smaller : goal.loop-at-smaller

@@ -7,10 +7,6 @@ use Rattle.scan.specs.declared.bytes.Stop.{Stop}
 use Rattle.scan.proofs.Stops.{Stands, stands}
 use Rattle.scan.proofs.bytes.lex_bytes.Goals as goal
 
--- what stands where the literal stops
-stood : (c : tie.After-bytes-stop) (e : Stop) → c.bytes-stop.result ≡ e → Stands c.before.before.args.s.now e
-stood c e q = stands c.before.before.args.limit c.before.before.args.s.now _ e c.bytes-stop.ensures q
-
 pub bytes_stop-requires : goal.bytes_stop-requires
 unfolding lex_bytes
 bytes_stop-requires c = search rules
@@ -21,7 +17,7 @@ enum_known-n c = search rules
 
 pub overflow_add-n : goal.overflow_add-n
 unfolding lex_bytes
-overflow_add-n c = omega (arith, stood c _ c.in-Over.is)
+overflow_add-n c = omega (arith, stands c.args.limit c.args.s.now _ _ c.bytes_stop.ensures c.in-Over.is)
 
 pub char_end-requires : goal.char_end-requires
 unfolding lex_bytes
@@ -37,7 +33,7 @@ enum_known-n-in-Closed-1 c = search rules
 
 pub overflow_add-n-in-Closed : goal.overflow_add-n-in-Closed
 unfolding lex_bytes
-overflow_add-n-in-Closed c = omega (arith, (stood c _ c.in-Closed.is).0)
+overflow_add-n-in-Closed c = omega (arith, (stands c.args.limit c.args.s.now _ _ c.bytes_stop.ensures c.in-Closed.is).0)
 
 pub bytes_value-requires : goal.bytes_value-requires
 unfolding lex_bytes
@@ -49,7 +45,7 @@ enum_known-n-in-Newline-1 c = search rules
 
 pub open_bytes-requires : goal.open_bytes-requires
 unfolding lex_bytes
-open_bytes-requires c = omega (arith, (stood c _ c.in-Newline.is).0)
+open_bytes-requires c = omega (arith, (stands c.args.limit c.args.s.now _ _ c.bytes_stop.ensures c.in-Newline.is).0)
 
 pub enum_known-n-in-Open-1 : goal.enum_known-n-in-Open-1
 unfolding lex_bytes
@@ -57,7 +53,7 @@ enum_known-n-in-Open-1 c = search rules
 
 pub open_bytes-requires-in-Open : goal.open_bytes-requires-in-Open
 unfolding lex_bytes
-open_bytes-requires-in-Open c = omega (arith, stood c _ c.in-Open.is)
+open_bytes-requires-in-Open c = omega (arith, stands c.args.limit c.args.s.now _ _ c.bytes_stop.ensures c.in-Open.is)
 
 pub returns-in-Over : goal.returns-in-Over
 unfolding lex_bytes

@@ -47,4 +47,4 @@ returns-in-Stamp c = cc
 
 pub returns-in_default : goal.returns-in_default
 unfolding in_run
-returns-in_default c = true_false _ (kind_arm _ c.in_default.in_default-own.keys5) c.requires
+returns-in_default c = true_false _ (kind_arm _ c.in_default.not-Blank c.in_default.not-Line c.in_default.not-Body c.in_default.not-Stamp) c.requires

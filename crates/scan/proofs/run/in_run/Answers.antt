@@ -22,7 +22,7 @@ is_digit-requires c = search rules
 
 pub in_other-requires : goal.in_other-requires
 unfolding in_run
-in_other-requires c = other_arm _ c.in_default.in_default-own.keys3
+in_other-requires c = other_arm _ c.in_default.not-Name c.in_default.not-Digits
 
 pub returns-in-Name : goal.returns-in-Name
 unfolding in_run

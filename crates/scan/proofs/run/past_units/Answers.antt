@@ -14,6 +14,7 @@ use Rattle.base.proofs.Walks.{past_end}
 use Rattle.scan.specs.Run.{unit_piece}
 use Rattle.scan.specs.Helpers.{in_letters}
 use Rattle.scan.proofs.Runs.{micro, micro_in, behind, point_turn, two_turn, none_turn}
+use Rattle.scan.proofs.run.past_units.Goals.{then-a-is_digit, else-a-is_digit+then-a-b}
 use Rattle.scan.proofs.run.past_units.Goals as goal
 
 pub loop-i-init : goal.loop-i-init
@@ -35,14 +36,25 @@ returns-else-a-b c =
 pub loop-i-smaller : goal.loop-i-smaller
 loop-i-smaller c =
     let text : List ℕ = c.args.s.now in
-    let moved : c.loop-i.i < c.if-a-is_digit.i = ⊎_elim (λ w. let e = w.1 in omega arith) (λ w. let e = w.2 in omega arith) c.if-a-is_digit.branch in
+    let moved : c.loop-i.i < c.if-a-is_digit.i =
+    elim c.if-a-is_digit.branch [
+      | then-a-is_digit w ↦ let e = w.i-is in omega arith
+      | else-a-is_digit+then-a-b w ↦ let e = w.i-is in omega arith
+    ] in
     let e = c.letters_end-i-in-loop-i.ensures in
     omega (arith, moved, reach_ge in_letters text c.if-a-is_digit.i)
 
 pub loop-i-preserved : goal.loop-i-preserved
 loop-i-preserved c =
     let text : List ℕ = c.args.s.now in
-    let same : past unit_piece text c.if-a-is_digit.i ≡ past unit_piece text c.args.at = let g = c.loop-i.invariant in let h = c.loop-i-test.true in ⊎_elim (λ w. rw w.1 (point_turn _ _ _ g h cc)) (λ w. let d : tie.Else1 invariant_loop decreases_loop = record { before = c; if1 = w.0 } in rw w.2 (two_turn _ _ _ g h (no_point d) (there (record { before = d; if2 = w.1 })))) c.if-a-is_digit.branch in
+    let same : past unit_piece text c.if-a-is_digit.i ≡ past unit_piece text c.args.at =
+    elim c.if-a-is_digit.branch [
+      | then-a-is_digit w ↦ rw w.i-is (point_turn _ _ _ c.loop-i.invariant c.loop-i-test.true (cc))
+      | else-a-is_digit+then-a-b w ↦
+        let no_point : eqb (byte text c.loop-i.i) 46 && is_digit (byte text (c.loop-i.i + 1)) ≡ false = cc in
+        let there : micro text c.loop-i.i ≡ true = cc in
+        rw w.i-is (two_turn _ _ _ c.loop-i.invariant c.loop-i-test.true no_point there)
+    ] in
     behind _ _ _ _ same c.letters_end-i-in-loop-i.ensures
 
 pub returns : goal.returns

@@ -13,10 +13,10 @@ pub loop-i-init : goal.loop-i-init
 loop-i-init c = c.past_blocks-i.ensures.same
 
 pub loop-i-preserved : goal.loop-i-preserved
-loop-i-preserved c = reach_step (in_run _) _ _ c.loop-i-test.true cc ∙ c.loop-i.invariant
+loop-i-preserved c = reach_step (in_run _) _ _ c.loop-i-test.true (cc) ∙ c.loop-i.invariant
 
 pub returns-else-in_other : goal.returns-else-in_other
-returns-else-in_other c = sym (reach_stop (in_run _) _ _ c.loop-i-test.true cc) ∙ c.loop-i.invariant
+returns-else-in_other c = sym (reach_stop (in_run _) _ _ c.loop-i-test.true (cc)) ∙ c.loop-i.invariant
 
 pub returns : goal.returns
 returns c = sym (reach_end (in_run _) _ _ c.loop-i-test.false) ∙ c.loop-i.invariant

@@ -13,7 +13,7 @@ pub reach_kind-requires-in-Digits : goal.reach_kind-requires-in-Digits
 reach_kind-requires-in-Digits c = (refl, search rules)
 
 pub reach_long-requires : goal.reach_long-requires
-reach_long-requires c = other_arm _ c.in_default.in_default-own.keys3
+reach_long-requires c = other_arm _ c.in_default.not-Name c.in_default.not-Digits
 
 pub returns-in-Name : goal.returns-in-Name
 unfolding in_run kind_test

@@ -1,13 +1,12 @@
 -- For `Seen` and `judge`: what is seen of a run, one byte after the other, many characters at once, and from one part of the run to the next. By cases
 -- on the byte. Assumes nothing.
 use mathlib.Core.Path.{◌≡◌, refl, sym, ap, ◌∙◌}
-use mathlib.Core.Bool.{Bool, true, false, not, ◌&&◌, ◌||◌}
+use mathlib.Core.Bool.{Bool, true, false, ◌&&◌}
 use mathlib.Core.List.{List, [], ◌∷◌, ◌++◌}
 use Prim.Native.Nat.{ℕ, suc, ◌+◌, ◌-◌, ◌≤◌, ◌<◌}
 use native.Mathlib.Nat.{add-zero}
 use native.Mathlib.Numerals.{add-one}
 use native.Mathlib.Omega.{arith}
-use borrow.Author.Tests.{eqb-true}
 use lib.Bits.{bit_and, and_zero_l, and_zero_r}
 use lib.Dec.{eqb}
 use lib.ListN.{length, take, drop, take-append-drop, length-drop, drop_of_length-le}
@@ -15,9 +14,9 @@ use lib.Seq.{drop-cons, drop-drop, length-take-le}
 use Rattle.base.specs.Choice.{pick}
 use Rattle.base.specs.Bytes.{byte}
 use Rattle.base.specs.Blocks.{all_pass}
-use Rattle.base.proofs.Tests.{by_cases, or_case, true_false, and_left, and_right, and-true, and_assoc, pick_case, zero_one}
+use Rattle.base.proofs.Tests.{by_cases, and_left, and_right, and-true, and_assoc, pick_case}
 use Rattle.base64_lenient.specs.Rfc4648.{Alphabet, standard, url_safe}
-use Rattle.base64_lenient.specs.Lenient.{is_line_break, is_pad, value_in, is_in}
+use Rattle.base64_lenient.specs.Lenient.{is_line_break, is_pad, is_in}
 use Rattle.base64_lenient.specs.Helpers.{in_both, as_bits, Bits, alphabets_of, characters_seen, nothing_seen, seen_one, seen_all, judged_seen, CanSee, SeenTo}
 use Rattle.base64_lenient.specs.declared.judge.Seen.{Seen}
 use Rattle.base64_lenient.specs.declared.judge.Judged.TheVariants.{Fails}

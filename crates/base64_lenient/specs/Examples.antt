@@ -1,9 +1,9 @@
 -- Runs worked out by the definitions alone: section 10 of RFC 4648 as texts and read back, for each rule of the decoder runs at its edges, and for each
 -- leniency a run that uses it alone.
-use Rattle.std.specs.Prelude.{◌≡◌, refl, Bool, true, false, List, [], ◌∷◌, ◌++◌, map, ℕ}
+use Rattle.std.specs.Prelude.{◌≡◌, refl, true, List, [], ◌∷◌, ◌++◌, map, ℕ}
 use Rattle.base.specs.Choice.{pick}
 use Rattle.base.specs.Characters.{ascii}
-use Rattle.base64_lenient.specs.Rfc4648.{standard, url_safe, padded, unpadded, encode_with, encode}
+use Rattle.base64_lenient.specs.Rfc4648.{standard, padded, encode_with, encode}
 use Rattle.base64_lenient.specs.Lenient.{without_breaks, before_pads, value_in, decodes, regroup, decoded}
 use Rattle.base64_lenient.specs.Leniencies.{Leniency, line_breaks, missing_pads, other_alphabet, pad_bits, pad_bits_of, uses, used}
 

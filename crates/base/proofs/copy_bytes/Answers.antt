@@ -1,6 +1,5 @@
 -- `copy_bytes` leaves the stores of the copied bytes: what is left to copy, stored from here on, makes the whole. Assumes nothing.
 use mathlib.Core.Path.{refl, sym, ◌∙◌}
-use Prim.Native.Nat.{◌-◌}
 use native.Mathlib.Nat.{add-zero}
 use native.Mathlib.Omega.{arith}
 use lib.ListN.{length-set}

@@ -1,6 +1,5 @@
 -- `store` leaves the stores of the whole list: what is left to store, stored from here on, makes the whole. Assumes nothing.
 use mathlib.Core.Path.{refl, sym, ◌∙◌}
-use Prim.Native.Nat.{◌-◌}
 use native.Mathlib.Nat.{add-zero}
 use native.Mathlib.Omega.{arith}
 use lib.ListN.{length-set, get_or}

@@ -1,6 +1,6 @@
 -- `digits_end` meets its contract: the run from `i` on has the end that the run from `at` has. Assumes nothing.
 use mathlib.Core.Path.{◌≡◌, refl, ◌∙◌}
-use Prim.Native.Nat.{◌+◌, ◌-◌}
+use Prim.Native.Nat.{◌+◌}
 use Rattle.base.specs.Runs.{reach}
 use Rattle.base.specs.Digits.{in_digits}
 use Rattle.base.specs.Masks.{kind_test}

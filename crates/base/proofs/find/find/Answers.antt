@@ -1,7 +1,6 @@
 -- `find` meets its contract: the run from here has the end that the run from `at` has. Assumes nothing.
 use mathlib.Core.Path.{ap, ◌∙◌}
 use mathlib.Core.Bool.{not}
-use Prim.Native.Nat.{◌-◌}
 use Rattle.base.specs.Blocks.{other}
 use Rattle.base.proofs.Reaches.{loop_step, loop_stop, loop_end}
 use borrow.Author.Rules.{rules}

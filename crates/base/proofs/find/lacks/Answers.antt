@@ -1,6 +1,5 @@
 -- `lacks` meets its contract: the bytes passed and the bytes left make the whole. Assumes nothing.
 use mathlib.Core.Path.{refl}
-use Prim.Native.Nat.{◌-◌}
 use Rattle.base.specs.Blocks.{is_not}
 use Rattle.base.proofs.Blocks.{all_turn, all_end}
 use Rattle.base.proofs.find.lacks.Goals as goal

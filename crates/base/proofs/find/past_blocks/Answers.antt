@@ -1,5 +1,4 @@
 -- `past_blocks` meets its contract: a block that lacks the byte stays in the run. Assumes nothing.
-use Prim.Native.Nat.{◌-◌}
 use Rattle.base.proofs.Blocks.{ahead_first, ahead_block}
 use borrow.Author.Tests.{not-false}
 use Rattle.base.proofs.find.past_blocks.Goals as goal

@@ -1,5 +1,4 @@
 -- `kept` meets its contract: what is left of the kind before each byte tells whether all bytes so far are of it. Assumes nothing.
-use Prim.Native.Nat.{◌-◌}
 use borrow.Author.Rules.{rules}
 use Rattle.base.proofs.KindRuns.{kept_first, kept_turn, kept_end}
 use Rattle.base.proofs.kinds.kept.Goals as goal

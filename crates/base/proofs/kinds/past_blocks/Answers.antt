@@ -1,6 +1,5 @@
 -- `past_blocks` meets its contract: a block whose bytes are all of the kind stays in the run. Assumes nothing.
 use mathlib.Core.Path.{refl}
-use Prim.Native.Nat.{◌-◌}
 use Rattle.base.specs.Masks.{kind_test, in_kind}
 use Rattle.base.proofs.Blocks.{ahead_first, ahead_block}
 use Rattle.base.proofs.KindRuns.{kept_pass}

@@ -1,5 +1,4 @@
 -- `reach_kind` meets its contract: the run from here has the end that the run from `at` has. Assumes nothing.
-use Prim.Native.Nat.{◌-◌}
 use Rattle.base.specs.Masks.{in_kind}
 use Rattle.base.proofs.Reaches.{loop_step, loop_stop, loop_end}
 use Rattle.base.proofs.KindRuns.{none_left, some_left}

@@ -1,6 +1,6 @@
 -- `row` is `mask_of`: a turn of the loop is a clause of it. Assumes nothing.
 use mathlib.Core.Path.{◌≡◌, refl}
-use Prim.Native.Nat.{suc, ◌+◌, ◌-◌}
+use Prim.Native.Nat.{suc, ◌+◌}
 use native.Mathlib.Omega.{arith}
 use Rattle.base.specs.Masks.{mask_of}
 use Rattle.base.proofs.kinds.row.Goals as goal

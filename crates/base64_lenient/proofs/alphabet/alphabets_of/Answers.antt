@@ -1,5 +1,4 @@
 -- `alphabets_of` meets its contract: the bytes passed and the bytes left make the whole, for each alphabet. Assumes nothing.
-use Prim.Native.Nat.{◌-◌}
 use Rattle.base64_lenient.proofs.AlphabetTests.{left_first, left_turn, left_end}
 use Rattle.base64_lenient.proofs.alphabet.alphabets_of.Goals as goal
 

@@ -1,8 +1,7 @@
 -- `next_group` gathers values up to the loop's place. Assumes nothing.
 use mathlib.Core.Path.{◌≡◌}
 use mathlib.Core.Bool.{false, ◌&&◌}
-use mathlib.Core.Logic.{⊎_elim}
-use Prim.Native.Nat.{◌-◌, ◌<◌}
+use Prim.Native.Nat.{◌<◌}
 use native.Mathlib.Omega.{arith}
 use borrow.Author.Tests.{lt-ltb, ltb-true, ltb-false}
 use lib.Dec.{ltb}
@@ -46,10 +45,10 @@ loop-count-preserved c =
     let inside : c.loop-count.i < length c.args.run.now = ltb-true _ _ (and_right (ltb c.loop-count.count 4) _ c.loop-count-test.true) in
     let v = c.value_of-v in
     elim c.if-v-lt-NO_VALUE.branch [
-      then-v-lt-NO_VALUE w ↦
-        rw (w.found-is, w.count-is) (gathered_more _ _ inside c.loop-count.invariant few v.result v.ensures w.if-v-lt-NO_VALUE.true)
-    | else-v-lt-NO_VALUE w ↦
-        rw (w.found-is, w.count-is) (gathered_skip _ _ inside c.loop-count.invariant c.if-b-eq61.false v.result v.ensures w.if-v-lt-NO_VALUE.false)
+      | then-v-lt-NO_VALUE w ↦
+          rw (w.found-is, w.count-is) (gathered_more _ _ inside c.loop-count.invariant few v.result v.ensures w.if-v-lt-NO_VALUE.true)
+      | else-v-lt-NO_VALUE w ↦
+          rw (w.found-is, w.count-is) (gathered_skip _ _ inside c.loop-count.invariant c.if-b-eq61.false v.result v.ensures w.if-v-lt-NO_VALUE.false)
     ]
 
 pub returns : goal.returns

@@ -1,6 +1,6 @@
 -- `whole_groups` stores the bytes of a group in each turn, and what is left, stored from there on, makes the whole. Assumes nothing.
 use mathlib.Core.Path.{◌≡◌}
-use Prim.Native.Nat.{◌+◌, ◌*◌, ◌-◌}
+use Prim.Native.Nat.{◌+◌, ◌*◌}
 use native.Mathlib.Nat.{add-zero}
 use native.Mathlib.Omega.{arith}
 use Rattle.base.proofs.Storings.{storing_first}
@@ -13,13 +13,13 @@ loop-n-init c = simp add-zero (omega arith, storing_first (omega arith))
 
 pub put_three-requires : goal.put_three-requires
 put_three-requires c =
-    let together : Together c.args.run.now (c.args.at + c.loop-n.n * 4) c.value_of-a.result c.value_of-b.result c.value_of-c.result c.value_of-d.result = record { inside = omega arith; first = c.value_of-a.ensures; second = c.value_of-b.ensures; third = c.value_of-c.ensures; fourth = c.value_of-d.ensures; small = all_small _ _ _ _ c.if-a-b.true; } in
+    let together : Together c.args.run.now (c.args.at + c.loop-n.n * 4) c.value_of-a.result c.value_of-b.result c.value_of-c.result c.value_of-d.result = record { inside = omega arith; first = c.value_of-a.ensures; second = c.value_of-b.ensures; third = c.value_of-c.ensures; fourth = c.value_of-d.ensures; small = all_small _ _ _ _ c.if-a-b.true } in
     let k = together in
     (together_room _ _ c.loop-n.invariant.1 k, k.small.0, k.small.1, k.small.2, k.small.3)
 
 pub loop-n-preserved : goal.loop-n-preserved
 loop-n-preserved c =
-    let together : Together c.args.run.now (c.args.at + c.loop-n.n * 4) c.value_of-a.result c.value_of-b.result c.value_of-c.result c.value_of-d.result = record { inside = omega arith; first = c.value_of-a.ensures; second = c.value_of-b.ensures; third = c.value_of-c.ensures; fourth = c.value_of-d.ensures; small = all_small _ _ _ _ c.if-a-b.true; } in
+    let together : Together c.args.run.now (c.args.at + c.loop-n.n * 4) c.value_of-a.result c.value_of-b.result c.value_of-c.result c.value_of-d.result = record { inside = omega arith; first = c.value_of-a.ensures; second = c.value_of-b.ensures; third = c.value_of-c.ensures; fourth = c.value_of-d.ensures; small = all_small _ _ _ _ c.if-a-b.true } in
     let a = c.args in
     let e : a.at + (c.loop-n.n + 1) * 4 ≡ a.at + c.loop-n.n * 4 + 4 = omega arith in
     let f : a.to + (c.loop-n.n + 1) * 3 ≡ a.to + c.loop-n.n * 3 + 3 = omega arith in

@@ -1,6 +1,5 @@
 -- `judge` is `judge_of`: what was seen to the end of each part and what is left of the run make the whole, and tell whether it decodes. Assumes nothing.
 use mathlib.Core.Path.{◌∙◌}
-use Prim.Native.Nat.{◌-◌}
 use native.Mathlib.Omega.{arith}
 use borrow.Author.Tests.{ltb-true, ltb-false}
 use lib.Dec.{ltb}

@@ -5,9 +5,9 @@ use Rattle.scan.proofs.number.at_inf.Goals as goal
 pub returns : goal.returns
 unfolding at_inf
 returns c = rw (
-      ← c.peek.ensures,
-      ← c.peek-2.ensures,
-      ← c.peek-3.ensures,
-      ← c.peek-4.ensures,
-      ← c.is_ident_part.ensures,
-    )
+  ← c.peek.ensures,
+  ← c.peek-2.ensures,
+  ← c.peek-3.ensures,
+  ← c.peek-4.ensures,
+  ← c.is_ident_part.ensures,
+)

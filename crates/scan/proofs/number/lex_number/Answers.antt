@@ -1,13 +1,13 @@
 -- `lex_number` meets its contract: each return is a case of the definition; only after a sign are `inf` and a digit looked for. Assumes nothing.
 use mathlib.Core.Path.{◌≡◌}
 use mathlib.Core.Bool.{true, false, ◌||◌}
-use mathlib.Core.Logic.{⊎_elim}
 use Prim.Native.Nat.{zero-le}
 use lib.Dec.{eqb}
 use borrow.Author.Tests.{ne_eqb}
 use Rattle.base.proofs.Tests.{as_number, pick_le, or_left, or_right}
 use Rattle.scan.specs.Number.{lex_number}
 use Rattle.scan.proofs.number.lex_number.Goals as goal
+use Rattle.scan.proofs.number.lex_number.Goals.{then-sign+else-at_inf+else-a-eq43+else-not-is_digit, else-sign}
 
 pub returns-then-at_inf : goal.returns-then-at_inf
 unfolding lex_number
@@ -33,14 +33,14 @@ lex_digits-requires c = let r = c.peek-a.result in
 pub returns : goal.returns
 unfolding lex_number
 returns c = let p = c.peek-a in
-    ⊎_elim
-    (λ w.
-    let q : eqb p.result 43 ≡ false = ne_eqb _ _ w.3.left in
-    let t : eqb p.result 45 ≡ true = rw q at w.0.taken in
-    rw (← p.ensures, q, t, ← w.1.ensures, w.2.left, ← w.4.ensures, ← w.5.ensures, w.6.left)
-    (rw (q, t) at c.lex_digits.ensures))
-    (λ w.
-    let q : eqb p.result 43 ≡ false = or_left (eqb p.result 43) (eqb p.result 45) w.left in
-    let t : eqb p.result 45 ≡ false = or_right (eqb p.result 43) (eqb p.result 45) w.left in
-    rw (← p.ensures, q, t) (rw (q, t) at c.lex_digits.ensures))
-    c.if-sign.branch
+    elim c.if-sign.branch [
+      | then-sign+else-at_inf+else-a-eq43+else-not-is_digit w ↦
+          let q : eqb p.result 43 ≡ false = ne_eqb _ _ w.if-a-eq43.false in
+          let t : eqb p.result 45 ≡ true = rw q at w.if-sign.true in
+          rw (← p.ensures, q, t, ← w.at_inf.ensures, w.if-at_inf.false, ← w.peek.ensures, ← w.is_digit.ensures, w.if-not-is_digit.false)
+          (rw (q, t) at c.lex_digits.ensures)
+      | else-sign w ↦
+          let q : eqb p.result 43 ≡ false = or_left (eqb p.result 43) (eqb p.result 45) w.if-sign.false in
+          let t : eqb p.result 45 ≡ false = or_right (eqb p.result 43) (eqb p.result 45) w.if-sign.false in
+          rw (← p.ensures, q, t) (rw (q, t) at c.lex_digits.ensures)
+    ]

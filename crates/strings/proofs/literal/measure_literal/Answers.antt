@@ -1,7 +1,7 @@
 -- `measure_literal` measures what is left with what is counted already: a part that is read at once, and then the closing quote or a step.
 -- Assumes nothing.
 use mathlib.Core.Path.{refl, sym, ◌∙◌}
-use Prim.Native.Nat.{◌+◌, ◌-◌}
+use Prim.Native.Nat.{◌+◌}
 use native.Mathlib.Omega.{arith}
 use Rattle.strings.proofs.Decodes.{step_four, step_less}
 use Rattle.strings.proofs.Parts.{spells_ge}

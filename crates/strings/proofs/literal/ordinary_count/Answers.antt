@@ -1,5 +1,4 @@
 -- `ordinary_count` meets its contract: the search has found where the run ends, or its bytes so far are in the run. Assumes nothing.
-use Prim.Native.Nat.{◌-◌}
 use native.Mathlib.Omega.{arith}
 use Rattle.base.proofs.Windows.{searched_first, searched_turn, searched_le, searched_end}
 use Rattle.strings.specs.Plain.{is_ordinary}

@@ -1,7 +1,6 @@
 -- `ordinary_end` scans a run: the run from e on has the end of the run from i on. Assumes nothing.
 use Rattle.strings.proofs.Steps.{scan_more, scan_stop, scan_end}
 use Rattle.strings.specs.Plain.{is_ordinary}
-use Prim.Native.Nat.{◌-◌}
 use Rattle.strings.proofs.literal.ordinary_end.Goals as goal
 
 pub loop-e-init : goal.loop-e-init

@@ -2,7 +2,6 @@
 use Rattle.strings.proofs.Parts.{spells_none, none_begun, parting_first, run_inside, spells_more, parting_more, sum_fits}
 use Rattle.strings.proofs.Parts.{total_fits, double_fits, end_fits, end_later}
 use Rattle.strings.proofs.Decodes.{run_ge}
-use Prim.Native.Nat.{◌-◌}
 use mathlib.Core.Path.{refl, sym, ◌∙◌}
 use Rattle.strings.proofs.literal.part_at.Goals as goal
 

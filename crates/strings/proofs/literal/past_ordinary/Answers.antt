@@ -1,5 +1,4 @@
 -- `past_ordinary` meets its contract: the bytes of a window that stand for themselves are in the run. Assumes nothing.
-use Prim.Native.Nat.{◌-◌}
 use native.Mathlib.Omega.{arith}
 use Rattle.base.proofs.Blocks.{ahead_first}
 use Rattle.base.proofs.Windows.{ahead_window}

@@ -1,7 +1,6 @@
 -- `put_simple` stores what the escapes that are left stand for after what is stored already. Assumes nothing.
 use Rattle.strings.proofs.Parts.{counting_end, counting_stop, counting_fits, counting_on, putting_first, putting_end}
 use Rattle.strings.proofs.Parts.{putting_stop, putting_room, putting_more}
-use Prim.Native.Nat.{◌-◌}
 use Rattle.strings.proofs.literal.put_simple.Goals as goal
 
 pub loop-e-init : goal.loop-e-init

@@ -1,6 +1,5 @@
 -- `simple_count` counts the escapes: those passed and those left make the whole. Assumes nothing.
 use Rattle.strings.proofs.Parts.{counting_first, counting_end, counting_stop, counting_more, counting_fits, counting_on}
-use Prim.Native.Nat.{◌-◌}
 use Rattle.strings.proofs.literal.simple_count.Goals as goal
 
 pub loop-e-init : goal.loop-e-init

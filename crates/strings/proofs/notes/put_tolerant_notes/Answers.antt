@@ -2,7 +2,6 @@
 use Rattle.strings.proofs.Notings.{noting_first, text_fits, noting_go, to_fits, to_fits_2, note_walks, note_small, note_room}
 use Rattle.strings.proofs.Notings.{note_fits, noting_note, noting_none, end_room, end_fits, noting_end}
 use Rattle.strings.proofs.Decodes.{step_less, run_ge, run_in}
-use Prim.Native.Nat.{◌-◌}
 use Rattle.strings.proofs.notes.put_tolerant_notes.Goals as goal
 
 pub loop-b-init : goal.loop-b-init

@@ -1,6 +1,5 @@
 -- `code_escape` is `code_piece`: the digits read so far with those that are left make the whole number. Assumes nothing.
 use Rattle.strings.proofs.Escapes.{run_first, run_fits, run_fits_2, run_bad, run_more, code_short, code_read, valid_low}
-use Prim.Native.Nat.{◌-◌}
 use Rattle.strings.proofs.piece.code_escape.Goals as goal
 
 pub returns-then-t-n : goal.returns-then-t-n

@@ -1,6 +1,5 @@
 -- `walk` gives the place of `to`: at each turn the place is that of an offset of the text up to `to`, a line further. Assumes nothing.
 use mathlib.Core.Path.{◌≡◌, sym, ap, ◌∙◌}
-use Prim.Native.Nat.{◌-◌}
 use native.Mathlib.Omega.{arith}
 use lib.ListN.{take}
 use lib.Seq.{length-take-le}

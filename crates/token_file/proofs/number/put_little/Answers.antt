@@ -1,6 +1,5 @@
 -- `put_little` leaves the stores of the number's bytes: what is left to store, stored from here on, makes the whole. Assumes nothing.
 use mathlib.Core.Path.{refl, sym, ◌∙◌}
-use Prim.Native.Nat.{◌-◌}
 use native.Mathlib.Omega.{arith}
 use lib.ListN.{length-set}
 use Rattle.token_file.proofs.Numbers.{put_start, put_turn, put_end}

@@ -45,8 +45,7 @@ returns-then-tokens-count c =
 
 pub store_rows-requires : goal.store_rows-requires
 store_rows-requires c =
-    let right : framed c.version1-y.result c.args.file.now ≡ true = sym c.is_framed.ensures ∙ c.if-not-is_framed.false in
-    (
+    let right : framed c.version1-y.result c.args.file.now ≡ true = sym c.is_framed.ensures ∙ c.if-not-is_framed.false in (
       narrow1 c.version1-y.ensures,
       read_inside _ _ right c.count_of-count.ensures.0,
       omega (arith, c.if-tokens-count.false),

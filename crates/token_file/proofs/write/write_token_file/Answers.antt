@@ -46,8 +46,7 @@ put_header-requires c = omega (arith, width1 c.args.count c.version1-y.ensures, 
 
 pub put_rows-requires : goal.put_rows-requires
 put_rows-requires c =
-    let ruled : let a = c.args in records_ok a.records.now a.count ≡ true = sym c.records_ok.ensures ∙ c.if-not-records_ok.false in
-    (
+    let ruled : let a = c.args in records_ok a.records.now a.count ≡ true = sym c.records_ok.ensures ∙ c.if-not-records_ok.false in (
       narrow1 c.version1-y.ensures,
       omega (arith, c.put_header.auto.out, c.file_width-size.ensures, c.if-out-size.false),
       (records_plain _ _ ruled).slice,

@@ -1,5 +1,4 @@
 -- `undent_len` is the length of `undented`: the bytes before `i` less those that are gone, and what is left from `i` on. Assumes nothing.
-use Prim.Native.Nat.{◌-◌}
 use Rattle.triple_strings.proofs.Undents.{counting_first, counting_end, counting_other, counting_newline, gone_fits}
 use Rattle.triple_strings.proofs.Undents.{size_fits, size_less, count_all}
 use Rattle.triple_strings.proofs.dedent.undent_len.Goals as goal

@@ -1,5 +1,4 @@
 -- `undent_write` stores `undented`: what is left from `i` on, stored from `p` on, gives the whole. Assumes nothing.
-use Prim.Native.Nat.{◌-◌}
 use Rattle.triple_strings.proofs.Undents.{laying_first, laying_end, laying_other, laying_newline, laying_room, laying_fits}
 use Rattle.triple_strings.proofs.Undents.{size_fits, size_less, copy_room, copy_all}
 use borrow.Author.Rules.{rules}

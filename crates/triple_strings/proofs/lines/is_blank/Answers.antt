@@ -1,5 +1,4 @@
 -- `is_blank` is `blank`: from each White_Space to the next, what is left is as blank as the whole. Assumes nothing.
-use Prim.Native.Nat.{◌-◌}
 use Rattle.triple_strings.proofs.LineScans.{blanking_first, blanking_end, blanking_stop, blanking_fits, blanking_less, blanking_on}
 use Rattle.triple_strings.proofs.lines.is_blank.Goals as goal
 

@@ -1,5 +1,4 @@
 -- `starts_with` is `prefix`: the bytes before `k` are the same. Assumes nothing.
-use Prim.Native.Nat.{◌-◌}
 use Rattle.triple_strings.proofs.LineScans.{matching_first, matching_short, matching_end, matching_fail, matching_on}
 use Rattle.triple_strings.proofs.lines.starts_with.Goals as goal
 

@@ -1,5 +1,4 @@
 -- `find_quotes` is `until_quotes`: no three quotes begin before `i`. Assumes nothing.
-use Prim.Native.Nat.{◌-◌}
 use Rattle.triple_strings.proofs.QuoteSearch.{finding_first, finding_end, finding_here, finding_on, finding_over}
 use Rattle.triple_strings.proofs.quotes.find_quotes.Goals as goal
 

@@ -1,5 +1,4 @@
 -- `all` is `seen_all`: what was seen and the bytes left make the whole. Assumes nothing.
-use Prim.Native.Nat.{◌-◌}
 use Rattle.base64_lenient.proofs.Sights.{going_first, going_room, going_turn, going_end}
 use Rattle.base64_lenient.proofs.judge.Seen.all.Goals as goal
 

@@ -228,6 +228,13 @@ module _ {r : Reading} {limit : 鈩晑 {text : List 鈩晑 {p : Place} {room at : 鈩
   front C.Bytes bytes w = record { slash = 位 a. absurd (omega (arith, a, w.0)); letter = 位 a. refl; other = 位 a b z. absurd (b w.0) }
   front C.Quote quote w =
       record { slash = 位 a. absurd (omega (arith, a, w)); letter = 位 a. absurd (omega (arith, a, w)); other = 位 a b z. refl }
+  front C.Newline n w = elim n [ ]
+  front C.LineComment n w = elim n [ ]
+  front (C.Single k) n w = elim n [ ]
+  front C.Directive n w = elim n [ ]
+  front C.Number n w = elim n [ ]
+  front C.Name n w = elim n [ ]
+  front C.Other n w = elim n [ ]
 
   front_is : Front (class_at rest)
   front_is = front (class_at rest) (noting (mode_of r) limit rest (class_at rest) (some_by (class_at rest) refl)) (first_bytes_at rest)

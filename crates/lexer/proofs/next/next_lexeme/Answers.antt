@@ -1,0 +1,40 @@
+-- `next_lexeme` skips the blanks; a mark is a token by its byte alone, any other is lexed from there. Assumes nothing.
+use mathlib.Core.Path.{sym, ◌∙◌}
+use Prim.Native.Nat.{◌≤◌}
+use lib.ListN.{length}
+use Rattle.base.specs.Bytes.{byte}
+use Rattle.base.proofs.Reaches.{rest_is}
+use Rattle.token.proofs.KindNumbers.{IsEof}
+use Rattle.lexer.specs.Helpers.{mark_of}
+use Rattle.lexer.specs.Token.{found_at}
+use Rattle.lexer.proofs.FoundToken.{start_le, from_quote}
+use Rattle.lexer.proofs.Marks.{mark_is}
+use borrow.Author.Tests.{eqb-false}
+use Rattle.lexer.proofs.next.next_lexeme.Goals as goal
+
+pub returns-then-not-is_eof : goal.returns-then-not-is_eof
+unfolding found_at
+returns-then-not-is_eof c =
+    let is_mark : IsEof (mark_of (byte c.args.text.now c.skip_spaces-start.result)) → ⊥ = rw (← c.peek.ensures, ← c.mark-kind.ensures) (eqb-false _ _ (sym c.is_eof.ensures ∙ c.if-not-is_eof.true)) in
+    let a = c.args in
+    rw (← c.skip_spaces-start.ensures, mark_is a.text.now c.skip_spaces-start.result is_mark a.mode a.limit)
+    (rw (← c.peek.ensures, ← c.mark-kind.ensures, ← c.mark_lexeme-lexeme.ensures))
+
+pub slice_bounds-lex_in-count : goal.slice_bounds-lex_in-count
+slice_bounds-lex_in-count c =
+    let start_in : c.skip_spaces-start.result ≤ length c.args.text.now = rw c.skip_spaces-start.ensures (start_le _ _ c.requires.0) in
+    start_in
+
+pub slice_bounds-lex_in-start : goal.slice_bounds-lex_in-start
+slice_bounds-lex_in-start c =
+    let start_in : c.skip_spaces-start.result ≤ length c.args.text.now = rw c.skip_spaces-start.ensures (start_le _ _ c.requires.0) in
+    start_in
+
+pub lex_in-lexeme-requires : goal.lex_in-lexeme-requires
+lex_in-lexeme-requires c =
+    let start_in : c.skip_spaces-start.result ≤ length c.args.text.now = rw c.skip_spaces-start.ensures (start_le _ _ c.requires.0) in
+    from_quote _ _ c.requires.1 start_in
+
+pub returns : goal.returns
+unfolding found_at
+returns c = rw (← c.skip_spaces-start.ensures, rw rest_is at c.lex_in-lexeme.ensures)

@@ -1,0 +1,27 @@
+-- `is_place` walks to the offset and compares. Assumes nothing.
+use mathlib.Core.Bool.{true}
+use mathlib.Core.Path.{◌≡◌, sym, ◌∙◌}
+use Rattle.token.proofs.Places.{first_walkable}
+use Rattle.reading.specs.Refusals.{good_offset}
+use Rattle.reading.specs.Answers.{is_place}
+use Rattle.reading.proofs.Places.{good_in, other_line, same_line}
+use Rattle.reading.proofs.one.is_place.Goals as goal
+
+pub returns-then-not-good_offset : goal.returns-then-not-good_offset
+unfolding is_place
+returns-then-not-good_offset c = rw (sym c.good_offset.ensures ∙ c.if-not-good_offset.true)
+
+pub walk-p-requires : goal.walk-p-requires
+walk-p-requires c =
+    let good : let a = c.args in good_offset a.text.now a.place.offset ≡ true = sym c.good_offset.ensures ∙ c.if-not-good_offset.false in
+    first_walkable _ _ c.first.ensures c.requires _ (good_in _ _ good)
+
+pub returns-then-place-p : goal.returns-then-place-p
+returns-then-place-p c =
+    let good : let a = c.args in good_offset a.text.now a.place.offset ≡ true = sym c.good_offset.ensures ∙ c.if-not-good_offset.false in
+    other_line _ _ good c.walk-p.result c.walk-p.ensures c.if-place-p.true
+
+pub returns : goal.returns
+returns c =
+    let good : let a = c.args in good_offset a.text.now a.place.offset ≡ true = sym c.good_offset.ensures ∙ c.if-not-good_offset.false in
+    same_line _ _ good c.walk-p.result c.walk-p.ensures c.if-place-p.false

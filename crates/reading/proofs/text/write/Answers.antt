@@ -1,0 +1,45 @@
+-- `write` stores and counts what the definitions say: a turn stores and counts one token. Assumes nothing.
+use mathlib.Core.Path.{sym, ◌∙◌}
+use Prim.Native.Nat.{◌-◌}
+use native.Mathlib.Omega.{arith}
+use borrow.Author.Tests.{eqb-true, eqb-false}
+use Rattle.reading.proofs.Turns.{passing_start, passing_less, passing_few, passing_room, passing_turn, passing_end}
+use Rattle.reading.proofs.Turns.{tokens_kept, strings_kept, reports_kept}
+use Rattle.reading.proofs.text.write.Goals as goal
+
+-- ---- a turn, once the token is stored and tested
+abbrev Tested : Type 0
+Tested = tie.After-is-eof invariant_loop decreases_loop
+
+pub loop-mode-init : goal.loop-mode-init
+loop-mode-init c = search passing_start
+
+pub put_token-requires : goal.put_token-requires
+put_token-requires c = passing_room c.loop-mode.invariant c.each_token-t.ensures (λ k. (c.type_inv.text k).fits)
+
+pub shape_of-tokens-then-is_eof : goal.shape_of-tokens-then-is_eof
+shape_of-tokens-then-is_eof c = tokens_kept c.loop-mode.invariant c.put_token.ensures
+
+pub shape_of-strings-then-is_eof : goal.shape_of-strings-then-is_eof
+shape_of-strings-then-is_eof c = strings_kept c.loop-mode.invariant c.put_token.ensures
+
+pub shape_of-reports-then-is_eof : goal.shape_of-reports-then-is_eof
+shape_of-reports-then-is_eof c = reports_kept c.loop-mode.invariant c.put_token.ensures
+
+pub returns-then-is_eof : goal.returns-then-is_eof
+returns-then-is_eof c = passing_end c.loop-mode.invariant c.each_token-t.ensures c.put_token.ensures
+    (eqb-true _ _ (sym c.is_eof.ensures ∙ c.if-is_eof.true))
+
+pub overflow_add-m : goal.overflow_add-m
+overflow_add-m c = record { fits = omega (arith, c.string_size-m.ensures, passing_few c.loop-mode.invariant c.each_token-t.ensures, c.loop-mode.invariant.walkable.short) }
+
+pub overflow_add-k : goal.overflow_add-k
+overflow_add-k c = record { fits = omega (arith, passing_few c.loop-mode.invariant c.each_token-t.ensures, c.loop-mode.invariant.walkable.short) }
+
+pub loop-mode-smaller : goal.loop-mode-smaller
+loop-mode-smaller c = passing_less c.loop-mode.invariant c.each_token-t.ensures (eqb-false _ _ (sym c.is_eof.ensures ∙ c.if-is_eof.false))
+
+pub loop-mode-preserved : goal.loop-mode-preserved
+loop-mode-preserved c = rw c.string_size-m.ensures
+    (passing_turn c.loop-mode.invariant c.each_token-t.ensures c.put_token.ensures
+    (eqb-false _ _ (sym c.is_eof.ensures ∙ c.if-is_eof.false)))

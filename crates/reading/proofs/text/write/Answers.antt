@@ -8,9 +8,6 @@ use Rattle.reading.proofs.Turns.{tokens_kept, strings_kept, reports_kept}
 use Rattle.reading.proofs.text.write.Goals as goal
 
 -- ---- a turn, once the token is stored and tested
-abbrev Tested : Type 0
-Tested = tie.After-is-eof invariant_loop decreases_loop
-
 pub loop-mode-init : goal.loop-mode-init
 loop-mode-init c = search passing_start
 

@@ -1,0 +1,26 @@
+-- `good_run` makes check 11: the length, then the bytes. Assumes nothing.
+use mathlib.Core.Bool.{true, not, ◌&&◌}
+use mathlib.Core.Path.{◌≡◌}
+use lib.Dec.{ltb, leb, eqb}
+use lib.ListN.{length}
+use borrow.Author.Tests.{lt-leb, le-leb, ltb-true, ltb-false}
+use Rattle.base.proofs.Tests.{and-false, or_case, or_left, or_right}
+use Rattle.suggest.specs.Calls.{longest_run, good_run}
+use Rattle.suggest.proofs.call.good_run.Goals as goal
+
+pub returns-then-run : goal.returns-then-run
+unfolding good_run
+returns-then-run c = let n = length c.args.run.now in
+    or_case (eqb n 0) (ltb longest_run n) c.if-run.true (λ e. rw e) (λ e. rw (lt-leb n longest_run (ltb-true longest_run n e), and-false))
+
+pub returns-in-WellFormed : goal.returns-in-WellFormed
+unfolding good_run
+returns-in-WellFormed c =
+    let good_length : let n = length c.args.run.now in not (eqb n 0) && leb n longest_run ≡ true = let n = length c.args.run.now in let l = ltb-false longest_run n (or_right (eqb n 0) (ltb longest_run n) c.if-run.false) in rw (or_left (eqb n 0) (ltb longest_run n) c.if-run.false, le-leb n longest_run l) in
+    rw (good_length, ← c.check.ensures.same, c.in-WellFormed.is)
+
+pub returns-in-IllFormed : goal.returns-in-IllFormed
+unfolding good_run
+returns-in-IllFormed c =
+    let good_length : let n = length c.args.run.now in not (eqb n 0) && leb n longest_run ≡ true = let n = length c.args.run.now in let l = ltb-false longest_run n (or_right (eqb n 0) (ltb longest_run n) c.if-run.false) in rw (or_left (eqb n 0) (ltb longest_run n) c.if-run.false, le-leb n longest_run l) in
+    rw (good_length, ← c.check.ensures.same, c.in-IllFormed.is)

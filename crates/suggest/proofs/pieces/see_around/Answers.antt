@@ -1,0 +1,32 @@
+-- `see_around` sees a text by what stands before its last cut and behind it, but for a zero under `-`. Assumes nothing.
+use mathlib.Core.Path.{sym, ◌∙◌}
+use native.Mathlib.Omega.{arith}
+use lib.Seq.{length-take-le, take-length}
+use Rattle.suggest.specs.Helpers.{TailSeen}
+use Rattle.suggest.proofs.Seams.{seam_seen, seam_no_sign, front_cut}
+use Rattle.suggest.proofs.pieces.see_around.Goals as goal
+
+pub slice_bounds-see_front-end : goal.slice_bounds-see_front-end
+slice_bounds-see_front-end c = sym (length-take-le _ _ c.requires.inside)
+
+pub see_front-front-requires : goal.see_front-front-requires
+see_front-front-requires c = front_cut c.requires
+
+pub returns-then-end-text : goal.returns-then-end-text
+returns-then-end-text c = c.see_front-front.ensures ∙ rw (c.if-end-text.true, take-length)
+
+pub returns-then-is_minus_zero : goal.returns-then-is_minus_zero
+returns-then-is_minus_zero c = c.see.ensures
+
+pub join-requires : goal.join-requires
+join-requires c =
+    let behind : let a = c.args in TailSeen a.text.now a.a.end a.a.tail = c.requires.behind (omega (arith, c.if-end-text.false, c.requires.inside)) in
+    let t = behind in rw t.known (seam_no_sign t.seam)
+
+pub returns : goal.returns
+returns c =
+    let behind : let a = c.args in TailSeen a.text.now a.a.end a.a.tail = c.requires.behind (omega (arith, c.if-end-text.false, c.requires.inside)) in
+    let f = c.see_front-front.ensures in
+    let t = behind in
+    c.join.ensures ∙ rw (c.is_minus-neg.ensures, f, t.known)
+    (seam_seen t.seam (λ n e. c.is_minus_zero.ensures c.if-is_minus_zero.false (c.is_minus-neg.ensures ∙ n) (f ∙ e)))

@@ -5,54 +5,60 @@ use mathlib.Core.Path.{◌≡◌}
 use Prim.Native.Nat.{◌*◌, ◌≤◌}
 use native.Mathlib.Omega.{arith}
 use lib.ListN.{length}
-use Rattle.base.proofs.Tests.{failed, passed}
+use Rattle.base.proofs.Tests.{failed, passed, told}
 use Rattle.suggestion_list.specs.Rows.{entry_width}
 use Rattle.suggest.specs.Suggestions.{suggestions_of}
 use Rattle.suggest.specs.Calls.{longest_run, good_run}
 use Rattle.suggest.proofs.TriedBytes.{suggestions_few}
 use Rattle.suggest.proofs.Answers.{good_short, bad_run, list_short, entries}
+use Rattle.suggest.proofs.call.suggest_durations.Goals.{then-list-run+else-list-count_all, else-list-run}
 use Rattle.suggest.proofs.call.suggest_durations.Goals as goal
 
 pub returns-then-not-good_run : goal.returns-then-not-good_run
-returns-then-not-good_run c = bad_run _ _ (failed _ c.good_run.ensures c.if-not-good_run.true)
+returns-then-not-good_run c = bad_run _ _ (told _ c.good_run.ensures c.if-not-good_run.true)
 
 pub overflow_mul-run : goal.overflow_mul-run
 overflow_mul-run c =
-    let good : good_run c.args.run.now ≡ true = passed _ c.good_run.ensures c.if-not-good_run.false in
+    let good : good_run c.args.run.now ≡ true = told _ c.good_run.ensures c.if-not-good_run.false in
     let short : length c.args.run.now ≤ longest_run = good_short _ good in
     omega (arith, short)
 
 pub overflow_mul-run-2 : goal.overflow_mul-run-2
 overflow_mul-run-2 c =
-    let good : good_run c.args.run.now ≡ true = passed _ c.good_run.ensures c.if-not-good_run.false in
+    let good : good_run c.args.run.now ≡ true = told _ c.good_run.ensures c.if-not-good_run.false in
     let short : length c.args.run.now ≤ longest_run = good_short _ good in
     omega (arith, short)
 
 pub count_all-requires : goal.count_all-requires
 count_all-requires c =
-    let good : good_run c.args.run.now ≡ true = passed _ c.good_run.ensures c.if-not-good_run.false in
+    let good : good_run c.args.run.now ≡ true = told _ c.good_run.ensures c.if-not-good_run.false in
     let short : length c.args.run.now ≤ longest_run = good_short _ good in
     short
 
 pub overflow_mul-count_all : goal.overflow_mul-count_all
 overflow_mul-count_all c =
-    let good : good_run c.args.run.now ≡ true = passed _ c.good_run.ensures c.if-not-good_run.false in
+    let good : good_run c.args.run.now ≡ true = told _ c.good_run.ensures c.if-not-good_run.false in
     let short : length c.args.run.now ≤ longest_run = good_short _ good in
     omega (arith, short, c.count_all.ensures, suggestions_few c.args.run.now)
 
 pub returns-then-list-count_all : goal.returns-then-list-count_all
 returns-then-list-count_all c =
-    let good : good_run c.args.run.now ≡ true = passed _ c.good_run.ensures c.if-not-good_run.false in
+    let good : good_run c.args.run.now ≡ true = told _ c.good_run.ensures c.if-not-good_run.false in
     list_short _ _ good (rw (← c.count_all.ensures) c.if-list-count_all.true)
 
 pub fill_all-requires : goal.fill_all-requires
 fill_all-requires c =
-    let good : good_run c.args.run.now ≡ true = passed _ c.good_run.ensures c.if-not-good_run.false in
+    let good : good_run c.args.run.now ≡ true = told _ c.good_run.ensures c.if-not-good_run.false in
     let short : length c.args.run.now ≤ longest_run = good_short _ good in
     short
 
 pub returns : goal.returns
 returns c =
-    let good : good_run c.args.run.now ≡ true = passed _ c.good_run.ensures c.if-not-good_run.false in
-    let room : let a = c.args in length (suggestions_of a.run.now) * entry_width ≤ length a.list.now = let f = suggestions_few c.args.run.now in ⊎_elim (λ w. rw (← w.1.ensures) (omega (arith, w.2.left))) (λ w. omega (arith, w.left)) c.if-list-run.branch in
+    let good : good_run c.args.run.now ≡ true = told _ c.good_run.ensures c.if-not-good_run.false in
+    let f = suggestions_few c.args.run.now in
+    let room : length (suggestions_of c.args.run.now) * entry_width ≤ length c.args.list.now =
+    elim c.if-list-run.branch [
+      | then-list-run+else-list-count_all w ↦ rw (← w.count_all.ensures) (omega (arith, w.if-list-count_all.false))
+      | else-list-run w ↦ omega (arith, w.if-list-run.false)
+    ] in
     entries _ _ good room c.fill_all.ensures

@@ -7,6 +7,7 @@ use Rattle.suggest.specs.Suggestions.{first_byte, byte_count}
 use Rattle.suggest.proofs.Seams.{cut_set}
 use Rattle.suggest.proofs.TriedBytes.{tried_gives, skipped_none}
 use Rattle.suggest.proofs.Turns.{trying_first, trying_none, trying_byte, trying_last, trying_back}
+use Rattle.suggest.proofs.candidates.try_offset.Goals.{then-b-own, else-b-own}
 use Rattle.suggest.proofs.candidates.try_offset.Goals as goal
 
 pub surroundings-around-requires : goal.surroundings-around-requires
@@ -31,14 +32,16 @@ loop-b-preserved c =
     let l = c.loop-b in
     let a = c.args in
     let p = c.requires in
-    ⊎_elim
-    (λ w. rw (w.5, w.6, w.7)
-    (trying_byte l.invariant in_range w.3.ensures w.3.kept.1.1.1.1.0 (omega (arith, l.invariant.long, p.1))
-    (tried_gives a.run.now a.i l.b (rw (← c.can_stand.ensures) w.0.taken))))
-    (λ w. rw (w.1, w.2, w.3)
-    (trying_none l.invariant in_range
-    (skipped_none a.run.now a.i l.b p.0 (omega (arith, p.1)) l.invariant.low in_range (rw (← c.can_stand.ensures) w.0.left))))
-    c.if-b-own.branch
+    elim c.if-b-own.branch [
+      | then-b-own w ↦
+        rw (w.run-is, w.list-is, w.n-is)
+        (trying_byte l.invariant in_range w.try_byte-n.ensures w.try_byte-n.auto.list (omega (arith, l.invariant.long, p.1))
+        (tried_gives a.run.now a.i l.b (rw (← c.can_stand.ensures) w.if-b-own.true)))
+      | else-b-own w ↦
+        rw (w.run-is, w.list-is, w.n-is)
+        (trying_none l.invariant in_range
+        (skipped_none a.run.now a.i l.b p.0 (omega (arith, p.1)) l.invariant.low in_range (rw (← c.can_stand.ensures) w.if-b-own.false)))
+    ]
 
 pub bounds-run-i-2 : goal.bounds-run-i-2
 bounds-run-i-2 c = omega (arith, c.loop-b.invariant.long, c.requires.0)

@@ -10,7 +10,7 @@ use lib.Seq.{get_or-drop}
 use Rattle.base.specs.Bytes.{byte}
 use Rattle.base.proofs.Reaches.{rest_is}
 use Rattle.base.specs.Classes.{is_digit}
-use Rattle.base.proofs.Tests.{true_false, in_text, failed, passed}
+use Rattle.base.proofs.Tests.{true_false, in_text, failed, passed, told}
 use Rattle.scan.specs.Run.{in_run}
 use Rattle.scan.specs.Number.{lex_number}
 use Rattle.lexer.specs.Helpers.{FromQuote}
@@ -27,14 +27,14 @@ no_quote s e q = let f = rw q at e in true_false false f refl
 pub returns-then-not-starts_number : goal.returns-then-not-starts_number
 unfolding seen_of start_at in_run
 returns-then-not-starts_number c = let r = c.reach_run-start in
-    let f = failed _ c.starts_number.ensures c.if-not-starts_number.true in
+    let f = told _ c.starts_number.ensures c.if-not-starts_number.true in
     rw (← r.ensures, ← c.peek.ensures, f)
 
 pub slice_bounds-lex_in-count : goal.slice_bounds-lex_in-count
 slice_bounds-lex_in-count c =
     let text : List ℕ = c.args.text.now in
     let start : ℕ = c.reach_run-start.result in
-    let begins : starts_number (byte text start) ≡ true = rw (← c.peek.ensures) (passed _ c.starts_number.ensures c.if-not-starts_number.false) in
+    let begins : starts_number (byte text start) ≡ true = rw (← c.peek.ensures) (told _ c.starts_number.ensures c.if-not-starts_number.false) in
     let inside : start < length text = in_text starts_number text start starts_zero begins in
     omega (arith, inside)
 
@@ -42,7 +42,7 @@ pub slice_bounds-lex_in-start : goal.slice_bounds-lex_in-start
 slice_bounds-lex_in-start c =
     let text : List ℕ = c.args.text.now in
     let start : ℕ = c.reach_run-start.result in
-    let begins : starts_number (byte text start) ≡ true = rw (← c.peek.ensures) (passed _ c.starts_number.ensures c.if-not-starts_number.false) in
+    let begins : starts_number (byte text start) ≡ true = rw (← c.peek.ensures) (told _ c.starts_number.ensures c.if-not-starts_number.false) in
     let inside : start < length text = in_text starts_number text start starts_zero begins in
     omega (arith, inside)
 
@@ -50,7 +50,7 @@ pub lex_in-x-requires : goal.lex_in-x-requires
 lex_in-x-requires c =
     let text : List ℕ = c.args.text.now in
     let start : ℕ = c.reach_run-start.result in
-    let begins : starts_number (byte text start) ≡ true = rw (← c.peek.ensures) (passed _ c.starts_number.ensures c.if-not-starts_number.false) in
+    let begins : starts_number (byte text start) ≡ true = rw (← c.peek.ensures) (told _ c.starts_number.ensures c.if-not-starts_number.false) in
     let begins_rest : starts_number (byte (drop start text) 0) ≡ true = rw (get_or-drop start text 0 0, add-zero) begins in
     rw rest_is (no_quote _ begins_rest)
 
@@ -58,7 +58,7 @@ pub overflow_add-end : goal.overflow_add-end
 overflow_add-end c =
     let text : List ℕ = c.args.text.now in
     let start : ℕ = c.reach_run-start.result in
-    let begins : starts_number (byte text start) ≡ true = rw (← c.peek.ensures) (passed _ c.starts_number.ensures c.if-not-starts_number.false) in
+    let begins : starts_number (byte text start) ≡ true = rw (← c.peek.ensures) (told _ c.starts_number.ensures c.if-not-starts_number.false) in
     let inside : start < length text = in_text starts_number text start starts_zero begins in
     let begins_rest : starts_number (byte (drop start text) 0) ≡ true = rw (get_or-drop start text 0 0, add-zero) begins in
     let number_is : c.lex_in-x.result ≡ lex_number (drop start text) = rw rest_is at c.lex_in-x.ensures ∙ number_lexeme 0 (drop start text) begins_rest in
@@ -72,7 +72,7 @@ unfolding seen_of start_at in_run
 returns c =
     let text : List ℕ = c.args.text.now in
     let start : ℕ = c.reach_run-start.result in
-    let begins : starts_number (byte text start) ≡ true = rw (← c.peek.ensures) (passed _ c.starts_number.ensures c.if-not-starts_number.false) in
+    let begins : starts_number (byte text start) ≡ true = rw (← c.peek.ensures) (told _ c.starts_number.ensures c.if-not-starts_number.false) in
     let begins_rest : starts_number (byte (drop start text) 0) ≡ true = rw (get_or-drop start text 0 0, add-zero) begins in
     let number_is : c.lex_in-x.result ≡ lex_number (drop start text) = rw rest_is at c.lex_in-x.ensures ∙ number_lexeme 0 (drop start text) begins_rest in
     let r = c.reach_run-start in

@@ -22,7 +22,7 @@ use Rattle.token.proofs.KindNumbers.{number_kind_lem}
 use Rattle.lexeme.specs.declared.Lexeme.{Lexeme}
 use Rattle.go_duration.specs.Fraction.{most}
 use Rattle.go_duration.specs.Parse.{sign_of}
-use Rattle.go_duration.specs.Written.{WrittenPart, part_bytes, Parts, none, more, Duration, total_of, Accepted}
+use Rattle.go_duration.specs.Written.{WrittenPart, part_bytes, Parts, none, more, total_of, Accepted}
 use Rattle.go_duration.proofs.Durations as durations
 use Rattle.scan.specs.Run.{in_run}
 use Rattle.scan.specs.Number.{lex_number}

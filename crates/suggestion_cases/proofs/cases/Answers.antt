@@ -1,6 +1,5 @@
 -- `cases` is safe and ends: each line takes at least a byte of the text. Assumes nothing.
 use native.Mathlib.Omega.{arith}
-use Prim.Native.Nat.{◌-◌}
 use Rattle.suggestion_cases.proofs.cases.Goals as goal
 
 pub loop-i-smaller : goal.loop-i-smaller

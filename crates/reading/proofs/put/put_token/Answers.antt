@@ -1,6 +1,5 @@
 -- `put_token` lays a token into the three buffers: where it counts no string byte or no report, it has none. Assumes nothing.
 use mathlib.Core.Path.{◌≡◌, ap, ◌∙◌}
-use mathlib.Core.Logic.{⊎_elim}
 use native.Mathlib.Omega.{arith}
 use lib.ListN.{length}
 use lib.Seq.{sets, length-sets}

@@ -1,6 +1,5 @@
 -- `measure` counts what the definitions say: a turn counts one token. Assumes nothing.
 use mathlib.Core.Path.{sym, ◌∙◌}
-use Prim.Native.Nat.{◌-◌}
 use native.Mathlib.Omega.{arith}
 use borrow.Author.Tests.{eqb-true, eqb-false}
 use Rattle.reading.proofs.Turns.{measuring_start, measuring_few, measuring_less, measuring_turn, measuring_end}

@@ -1,6 +1,5 @@
 -- `write` stores and counts what the definitions say: a turn stores and counts one token. Assumes nothing.
 use mathlib.Core.Path.{sym, ◌∙◌}
-use Prim.Native.Nat.{◌-◌}
 use native.Mathlib.Omega.{arith}
 use borrow.Author.Tests.{eqb-true, eqb-false}
 use Rattle.reading.proofs.Turns.{passing_start, passing_less, passing_few, passing_room, passing_turn, passing_end}

@@ -1,10 +1,8 @@
 -- `lex_bytes` meets its contract: each arm is a clause of the definition; where the literal stops is in the text. Assumes nothing.
-use mathlib.Core.Path.{◌≡◌}
 use native.Mathlib.Omega.{arith}
 use borrow.Author.Rules.{rules}
 use Rattle.scan.specs.Bytes.{lex_bytes}
-use Rattle.scan.specs.declared.bytes.Stop.{Stop}
-use Rattle.scan.proofs.Stops.{Stands, stands}
+use Rattle.scan.proofs.Stops.{stands}
 use Rattle.scan.proofs.bytes.lex_bytes.Goals as goal
 
 pub bytes_stop-requires : goal.bytes_stop-requires

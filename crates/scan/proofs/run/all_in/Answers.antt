@@ -1,6 +1,5 @@
 -- `all_in` meets its contract: the pairs passed and the pairs left make the whole. Assumes nothing.
 use mathlib.Core.Path.{refl}
-use Prim.Native.Nat.{◌-◌}
 use native.Mathlib.Omega.{arith}
 use Rattle.base.proofs.Blocks.{pairs_turn, pairs_end}
 use Rattle.scan.specs.Run.{in_run}

@@ -1,8 +1,6 @@
 -- `letters_end` meets its contract: the run from `i` on has the end that the run from `at` has. Assumes nothing.
 use mathlib.Core.Path.{◌≡◌, refl}
-use mathlib.Core.Logic.{⊎_elim}
 use mathlib.Core.Bool.{true, ◌||◌}
-use Prim.Native.Nat.{◌-◌}
 use Rattle.base.specs.Bytes.{byte}
 use Rattle.base.specs.Classes.{is_digit, is_lower_alpha}
 use Rattle.base.proofs.Reaches.{loop_step, loop_stop, loop_end}
@@ -28,7 +26,7 @@ loop-i-preserved c =
     elim c.if-a-lt97.branch [
       | then-a-lt97+else-not-is_digit w ↦ low_one _ _ w.is_digit.ensures (ap not w.if-not-is_digit.false)
       | else-a-lt97+else-not-is_lower_alpha w ↦
-        high_one _ _ w.is_lower_alpha.ensures (ap not w.if-not-is_lower_alpha.false) w.if-a-lt97.false
+          high_one _ _ w.is_lower_alpha.ensures (ap not w.if-not-is_lower_alpha.false) w.if-a-lt97.false
     ] in
     loop_step in_letters _ _ _ c.loop-i.invariant c.loop-i-test.true letter
 

@@ -1,5 +1,4 @@
 -- `past_blocks` meets its contract: a block whose pairs all pass stays in the run. Assumes nothing.
-use Prim.Native.Nat.{◌-◌}
 use Rattle.base.proofs.Blocks.{ahead_first, ahead_pairs}
 use Rattle.scan.specs.Run.{in_run}
 use Rattle.scan.proofs.run.past_blocks.Goals as goal

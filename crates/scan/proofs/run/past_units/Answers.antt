@@ -2,8 +2,7 @@
 use mathlib.Core.Path.{◌≡◌, refl, sym, ◌∙◌}
 use mathlib.Core.Bool.{false, true, ◌&&◌}
 use mathlib.Core.List.{List}
-use mathlib.Core.Logic.{⊎_elim}
-use Prim.Native.Nat.{ℕ, ◌+◌, ◌-◌, ◌<◌}
+use Prim.Native.Nat.{ℕ, ◌+◌, ◌<◌}
 use native.Mathlib.Omega.{arith}
 use lib.Dec.{eqb}
 use Rattle.base.specs.Bytes.{byte}
@@ -51,9 +50,9 @@ loop-i-preserved c =
     elim c.if-a-is_digit.branch [
       | then-a-is_digit w ↦ rw w.i-is (point_turn _ _ _ c.loop-i.invariant c.loop-i-test.true (cc))
       | else-a-is_digit+then-a-b w ↦
-        let no_point : eqb (byte text c.loop-i.i) 46 && is_digit (byte text (c.loop-i.i + 1)) ≡ false = cc in
-        let there : micro text c.loop-i.i ≡ true = cc in
-        rw w.i-is (two_turn _ _ _ c.loop-i.invariant c.loop-i-test.true no_point there)
+          let no_point : eqb (byte text c.loop-i.i) 46 && is_digit (byte text (c.loop-i.i + 1)) ≡ false = cc in
+          let there : micro text c.loop-i.i ≡ true = cc in
+          rw w.i-is (two_turn _ _ _ c.loop-i.invariant c.loop-i-test.true no_point there)
     ] in
     behind _ _ _ _ same c.letters_end-i-in-loop-i.ensures
 

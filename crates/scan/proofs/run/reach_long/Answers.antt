@@ -1,6 +1,5 @@
 -- `reach_long` meets its contract: the run from here has the end that the run from `at` has. Assumes nothing.
 use mathlib.Core.Path.{sym, ◌∙◌}
-use Prim.Native.Nat.{◌-◌}
 use native.Mathlib.Omega.{arith}
 use Rattle.base.proofs.Reaches.{reach_step, reach_stop, reach_end}
 use Rattle.scan.specs.Run.{in_run}

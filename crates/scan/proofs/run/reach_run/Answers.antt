@@ -1,6 +1,5 @@
 -- `reach_run` meets its contract: the run from here has the end that the run from `at` has. Assumes nothing.
 use mathlib.Core.Path.{refl, sym, ◌∙◌}
-use Prim.Native.Nat.{◌-◌}
 use Rattle.base.proofs.Reaches.{reach_step, reach_stop, reach_end, rest_is}
 use Rattle.scan.specs.Run.{in_run}
 use Rattle.scan.proofs.run.reach_run.Goals as goal

@@ -1,11 +1,10 @@
 -- `suggest_durations` makes its checks in their order; a list that suffices for any run of the length needs no count. Assumes nothing.
-use mathlib.Core.Logic.{⊎_elim}
 use mathlib.Core.Bool.{true}
 use mathlib.Core.Path.{◌≡◌}
 use Prim.Native.Nat.{◌*◌, ◌≤◌}
 use native.Mathlib.Omega.{arith}
 use lib.ListN.{length}
-use Rattle.base.proofs.Tests.{failed, passed, told}
+use Rattle.base.proofs.Tests.{told}
 use Rattle.suggestion_list.specs.Rows.{entry_width}
 use Rattle.suggest.specs.Suggestions.{suggestions_of}
 use Rattle.suggest.specs.Calls.{longest_run, good_run}

@@ -1,6 +1,5 @@
 -- `try_offset` meets its contract: the bytes before this one were tried, and the run differs at the offset alone. Assumes nothing.
-use mathlib.Core.Logic.{⊎_elim}
-use Prim.Native.Nat.{◌+◌, ◌-◌, ◌<◌}
+use Prim.Native.Nat.{◌+◌, ◌<◌}
 use native.Mathlib.Omega.{arith}
 use lib.ListN.{length-set}
 use Rattle.suggest.specs.Suggestions.{first_byte, byte_count}
@@ -34,13 +33,13 @@ loop-b-preserved c =
     let p = c.requires in
     elim c.if-b-own.branch [
       | then-b-own w ↦
-        rw (w.run-is, w.list-is, w.n-is)
-        (trying_byte l.invariant in_range w.try_byte-n.ensures w.try_byte-n.auto.list (omega (arith, l.invariant.long, p.1))
-        (tried_gives a.run.now a.i l.b (rw (← c.can_stand.ensures) w.if-b-own.true)))
+          rw (w.run-is, w.list-is, w.n-is)
+          (trying_byte l.invariant in_range w.try_byte-n.ensures w.try_byte-n.auto.list (omega (arith, l.invariant.long, p.1))
+          (tried_gives a.run.now a.i l.b (rw (← c.can_stand.ensures) w.if-b-own.true)))
       | else-b-own w ↦
-        rw (w.run-is, w.list-is, w.n-is)
-        (trying_none l.invariant in_range
-        (skipped_none a.run.now a.i l.b p.0 (omega (arith, p.1)) l.invariant.low in_range (rw (← c.can_stand.ensures) w.if-b-own.false)))
+          rw (w.run-is, w.list-is, w.n-is)
+          (trying_none l.invariant in_range
+          (skipped_none a.run.now a.i l.b p.0 (omega (arith, p.1)) l.invariant.low in_range (rw (← c.can_stand.ensures) w.if-b-own.false)))
     ]
 
 pub bounds-run-i-2 : goal.bounds-run-i-2

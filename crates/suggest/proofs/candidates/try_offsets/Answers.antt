@@ -1,6 +1,5 @@
 -- `try_offsets` meets its contract: the offsets before this one were tried, and the run is as it was. Assumes nothing.
 use mathlib.Core.Path.{ap}
-use Prim.Native.Nat.{◌-◌}
 use native.Mathlib.Omega.{arith}
 use lib.ListN.{length}
 use Rattle.suggest.proofs.Turns.{walking_first, walking_next, walking_last}

@@ -1,5 +1,4 @@
 -- `cut_after` looks from behind `i` on. Assumes nothing.
-use Prim.Native.Nat.{◌-◌}
 use native.Mathlib.Omega.{arith}
 use Rattle.base.specs.Classes.{is_lower_alpha}
 use Rattle.base.proofs.Tests.{told, and_left, and_right}

@@ -4,9 +4,13 @@
 ghost use Rattle.std.specs.Prelude.{◌≤◌, length};
 ghost use Rattle.listing_lines.specs.Listing.{Prints, Suffice};
 
-use libc::{STDIN_FILENO, STDOUT_FILENO};
 use listing_lines::{Listed, list};
 use token::layout::RECORD_WIDTH;
+
+// The descriptors of standard input and standard output.
+const STDIN_FILENO: i32 = 0;
+
+const STDOUT_FILENO: i32 = 1;
 
 // The lengths of buffers that hold the tokens of any text of at most 8,192 bytes and their lines, of which none has more than 48 bytes.
 const TOKENS: usize = 8193 * RECORD_WIDTH;

@@ -1,6 +1,6 @@
 -- `put_lines` writes the lines record by record. Assumes nothing.
 use mathlib.Core.Path.{ap}
-use Prim.Native.Nat.{◌+◌, ◌*◌, ◌-◌}
+use Prim.Native.Nat.{◌+◌, ◌*◌}
 use native.Mathlib.Omega.{arith}
 use lib.ListN.{length, drop, length-append}
 use Rattle.base.proofs.Storings.{storing_first, storing_to, storing_end}

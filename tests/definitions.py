@@ -17,6 +17,9 @@ STATED = [
     ("go_duration", "Written", "Accepted"),
     ("rfc3339", "Instant", "InRange"),
     ("rfc3339", "Partings", "PartingsTell"),
+    ("base64_lenient", "Calls", "DecodesBytes"),
+    ("base64_lenient", "Calls", "decoded_value"),
+    ("base64_lenient", "Leniencies", "DecodesRfc4648"),
     ("token", "Reason", "ReasonRule"),
     ("token_file", "Calls", "WritesFile"),
     ("token_file", "Calls", "ReadsFile"),
@@ -33,7 +36,7 @@ STATED = [
 
 WORD = re.compile(r'[^\s(){},;"`⌜⌝]+')
 DECLARED = re.compile(r"^(abbrev |unfoldable )?(?:pub )?(record |data )?([^\s:(){}]+)(?: \{ℓ\})?(?: [({][^\n]*)?(?:\n    [^\n]*)?? :", re.M)
-IMPORTED = re.compile(r"^(?:ghost )?use Rattle·(\w+)(?:·specs)?\.specs\.([\w.-]+?)(?:\.\{([^}]*)\}| as (\S+?));?$", re.M)
+IMPORTED = re.compile(r"^(?:ghost )?use Rattle\.(\w+)\.specs\.([\w.-]+?)(?:\.\{([^}]*)\}| as (\S+?));?$", re.M)
 
 
 def without_comments(text):

@@ -2,7 +2,7 @@
 ghost use Rattle.std.specs.Prelude.{◌≤◌, ◌≡◌, length};
 ghost use Rattle.cases.specs.Escaped.{is_plain};
 
-use libc::STDOUT_FILENO;
+use crate::STDOUT_FILENO;
 use notation::parse;
 
 fn is_plain(b: u8) -> bool

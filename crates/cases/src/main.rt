@@ -9,7 +9,6 @@ ghost use Rattle.token.specs.Layout.{record_width, report_width};
 ghost use Rattle.cases.specs.Room.{Roomy};
 
 use lexer::reading::Reading;
-use libc::{STDIN_FILENO, STDOUT_FILENO};
 use notation::numbers::{put_number, separator_before};
 use notation::parse;
 use reading::one::{ReadToken, read_token};
@@ -19,6 +18,11 @@ use reading::text::{ReadText, read_text};
 use rfc3339::parse::Instant;
 use token::layout::{RECORD_WIDTH, REPORT_WIDTH};
 use token::place::Place;
+
+// The descriptors of standard input and standard output.
+const STDIN_FILENO: i32 = 0;
+
+const STDOUT_FILENO: i32 = 1;
 
 // The lengths of buffers that hold the tokens, strings and reports of any text of at most 512 bytes.
 const TOKENS: usize = 513 * RECORD_WIDTH;

@@ -80,15 +80,24 @@ fn try_offsets(run: &mut [u8], list: &mut [i64]) -> usize
     count
 }
 
+// The same for a run, which is copied to the front of a lent text first. The compiler does not know that this text lies apart from the run; where it
+// knows, it calls the C library for the copy, and the archive needs no other library.
+fn fill_text(run: &[u8], text: &mut [u8], list: &mut [i64]) -> usize
+    requires { (length run.now ≤ longest_run) × (length run.now ≤ length text.old) }
+    ensures { AllTried run.now list.old list.new result }
+{
+    let n = run.len();
+    base::copy(text, 0, run, 0, n);
+    try_offsets(&mut text[..n], list)
+}
+
 // Counts the suggestions for a run, and fills the list with them where it has room for all.
 pub fn fill_all(run: &[u8], list: &mut [i64]) -> usize
     requires { length run.now ≤ longest_run }
     ensures { AllTried run.now list.old list.new result }
 {
-    let n = run.len();
     let mut text = [0u8; LONGEST];
-    base::copy(&mut text, 0, run, 0, n);
-    try_offsets(&mut text[..n], list)
+    fill_text(run, &mut text, list)
 }
 
 // Counts them alone: a list of one number has no room for any.
@@ -96,6 +105,7 @@ pub fn count_all(run: &[u8]) -> usize
     requires { length run.now ≤ longest_run }
     ensures { result ≡ length (suggestions_of run.now) }
 {
+    let mut text = [0u8; LONGEST];
     let mut none = [0i64; 1];
-    fill_all(run, &mut none)
+    fill_text(run, &mut text, &mut none)
 }

@@ -1,6 +1,5 @@
 -- `cases` is safe and ends. Assumes nothing.
 use native.Mathlib.Omega.{arith}
-use Prim.Native.Nat.{◌-◌}
 use Rattle.token_file_cases.proofs.cases.Goals as goal
 
 pub loop-i-smaller : goal.loop-i-smaller

@@ -4,7 +4,7 @@ use lib.ListN.{length}
 use Rattle.token_file_cases.proofs.show_bytes.Given as goal
 
 abbrev pub invariant-loop-i : goal.invariant-loop-i
-invariant-loop-i l = i ≤ length l.b
+invariant-loop-i l = l.i ≤ length l.b
 
 abbrev pub decreases-loop-i : goal.decreases-loop-i
-decreases-loop-i l = length l.b - i
+decreases-loop-i l = length l.b - l.i

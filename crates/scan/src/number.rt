@@ -134,6 +134,7 @@ fn lex_tail(s: &[u8], n: usize, f: usize) -> Lexeme
 }
 
 // A timestamp whose first digits end at `n`.
+#[tactic(auto, unfolding(crate::specs::Number::lex_timestamp))]
 fn lex_timestamp(s: &[u8], n: usize) -> Lexeme
     requires { n ≤ length s.now }
     ensures { result ≡ lex_timestamp s.now n }

@@ -16,7 +16,7 @@ expect() { if [ $# -gt 0 ]; then says "$@"; fi >"$work/expected"; }
 c() { "${CC:-cc}" -std=c99 "${warnings[@]}" -I include "$@"; }
 cpp() { "${CXX:-c++}" "${warnings[@]}" -I include -x c++ "$@"; }
 
-if ! rt staticlib pxf >"$work/report" 2>&1; then
+if ! ./build pxf >"$work/report" 2>&1; then
     cat "$work/report"
     echo '0 passed, 1 failed'
     exit 1

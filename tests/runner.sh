@@ -44,6 +44,13 @@ line_differs() {
     says "$@" "$((all - 1)) passed, 1 failed"
 }
 
+# The lists are copies of what the gate runs the programs on, and of what they have to print.
+: >expected
+for copy in cases/stdin:questions cases/stdout:cases token_file_cases/stdin:token_files token_file_cases/stdout:token_files_answers \
+    suggestion_cases/stdin:suggestions suggestion_cases/stdout:suggestions_answers; do
+    holds "${copy#*:}.txt is a copy" 0 cmp "$root/crates/${copy%:*}" "$root/conformance/${copy#*:}.txt"
+done
+
 # what the readers, which are scripts, are made of
 export CASES=$root/target/bin/cases TOKEN_FILES=$root/target/bin/token_file_cases SUGGESTIONS=$root/target/bin/suggestion_cases
 export ONE=miniature-2-strict

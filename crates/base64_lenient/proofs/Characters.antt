@@ -1,4 +1,5 @@
--- For Texts, Rfc4648, Sights and Values: what is known of the characters of the two alphabets. Each of them is the character of a value below 64, by induction on the
+-- For Texts, Rfc4648, Sights and Values: what is known of the characters of the two alphabets. Each of them is the character of a value below 64, by
+-- induction on the
 -- list of characters; and what holds of the characters of all values is one test that antt computes. Assumes nothing.
 use mathlib.Core.Path.{◌≡◌, refl}
 use mathlib.Core.Bool.{Bool, true, false, not, ◌&&◌}

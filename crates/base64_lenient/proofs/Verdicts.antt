@@ -111,7 +111,14 @@ before_pads_lem s u n (b ∷ l) =
     let o : n + 1 + length (before_pads (without_breaks l)) ≡ n + suc (length (before_pads (without_breaks l))) = omega arith in
     judged_one w b l (characters_seen (as_bits (s && x) (u && y)) (n + 1)) (seen_character w b p q refl ∙ rw (bits_shared s u x y))
     ∙ before_pads_lem (s && x) (u && y) (n + 1) l
-    ∙ rw (p, q, o, and_assoc s x (each (is_in standard) (before_pads (without_breaks l))), and_assoc u y (each (is_in url_safe) (before_pads (without_breaks l))))))
+    ∙ rw (
+      p,
+      q,
+      o,
+      and_assoc s x (each (is_in standard) (before_pads (without_breaks l))),
+      and_assoc u y
+          (each (is_in url_safe) (before_pads (without_breaks l))),
+    )))
 
 -- ---- how many bytes
 
@@ -133,7 +140,8 @@ judged_is run =
     ∙ rw o
     (by_cases (in_one_alphabet cs && (each is_pad ps && right_pads (length cs) (length ps)))
     (λ h. let r = and_right (each is_pad ps) _ (and_right (in_one_alphabet cs) _ h) in
-    rw h (ap Decodes (sym (regroup_size (map six_bits cs) (λ e. no_single (length cs) (length ps) r (rw (length-map cs six_bits) at e)) ∙ rw (length-map cs six_bits)))))
+    rw h (ap Decodes (sym (regroup_size (map six_bits cs) (λ e. no_single (length cs) (length ps) r (rw (length-map cs six_bits) at e)) ∙ rw
+    (length-map cs six_bits)))))
     (λ h. rw h))
 
 -- what was seen of a run to its end, and what was seen of it before no alphabet was left

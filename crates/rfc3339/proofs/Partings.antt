@@ -91,7 +91,8 @@ module _ (g : Grammar) (s : List ℕ) where
   partial_time_rule : is_partial_time g s ≡ is_partial_time widest s && (allows hour_of_one_digit && (allows second60 && allows comma_before_fraction))
   unfolding is_partial_time
   partial_time_rule = rw (hour_rule, second_rule, fraction_rule)
-      (go (is_hour widest s) (allows hour_of_one_digit) (is_at (code ":") s (hour_end s)) (is_minute s && is_at (code ":") s (hour_end s + 3)) (is_second widest s)
+      (go (is_hour widest s) (allows hour_of_one_digit) (is_at (code ":") s (hour_end s)) (is_minute s && is_at (code ":") s (hour_end s + 3))
+      (is_second widest s)
       (allows second60) (is_secfrac widest s) (allows comma_before_fraction))
     where
       go : (h x c m n y f z : Bool) → (((h && x) && c) && m) && ((n && y) && (f && z)) ≡ (((h && c) && m) && (n && f)) && (x && (y && z))

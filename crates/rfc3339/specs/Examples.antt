@@ -86,7 +86,8 @@ cases =
 -- every row of the table holds
 pub worked : map (λ (c : Case). date_of c.run) cases ≡ map (λ (c : Case). c.want) cases
 unfolding date_by is_date_time is_full_date is_fullyear is_pair pair_of year_of month_length is_leap days_to days_of_years days_of_months is_t hour_end hour_of
-    is_hour is_second has_secfrac secfrac_end is_secfrac is_partial_time is_offset_hour is_offset_minute has_sign is_numoffset is_z local_seconds epoch_seconds offset_seconds
+    is_hour is_second has_secfrac secfrac_end is_secfrac is_partial_time is_offset_hour is_offset_minute has_sign is_numoffset is_z local_seconds
+    epoch_seconds offset_seconds
     seconds_of secfrac_digits secfrac_nanos value_from runs.run runs.reach is_digit
 worked = refl
 

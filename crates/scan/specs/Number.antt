@@ -102,4 +102,5 @@ unfoldable pub lex_number : List ℕ → Lexeme
 lex_number s =
     pick (is_sign (byte s 0) && at_inf s) (whole K.Float 4)
     (pick (eqb (byte s 0) (code "+")) (illegal reasons.plus_without_inf 0 1)
-    (pick (eqb (byte s 0) (code "-") && not (is_digit (byte s 1))) (illegal reasons.minus_without_digit 0 1) (lex_digits s (pick (eqb (byte s 0) (code "-")) 1 0))))
+    (pick (eqb (byte s 0) (code "-") && not (is_digit (byte s 1))) (illegal reasons.minus_without_digit 0 1)
+    (lex_digits s (pick (eqb (byte s 0) (code "-")) 1 0))))

@@ -54,7 +54,8 @@ module _ {records : List ℤ} {count : ℕ} {out : List ℕ} where
           let q : n ≡ file_width version1 count = rw e at w in
           let rs = rows_of count records in
           let f : length (file_of version1 rs) ≡ n = file_length version1 rs ∙ rw (rows_length count records) (sym q) in
-          let j : sets out 0 (header version1 count ++ rows_bytes version1 rs) ≡ sets (sets out 0 (header version1 count)) header_width (rows_bytes version1 rs) =
+          let j : sets out 0 (header version1 count ++ rows_bytes version1 rs) ≡ sets (sets out 0 (header version1 count)) header_width
+          (rows_bytes version1 rs) =
           rw (header_length version1 count) at (sets_append out 0 (header version1 count) (rows_bytes version1 rs)) in
           let g : header version1 count ++ rows_bytes version1 rs ≡ file_of version1 rs = rw (rows_length count records) in
           let r : out₂ ≡ sets (sets out 0 (header version1 count)) header_width (rows_bytes version1 rs) = p₂ ∙ rw (p₁, e) in

@@ -41,7 +41,8 @@ row_at l =
 -- none of the kept numbers of the record at the front is below 0
 unfoldable pub natural_row : List ℤ → Bool
 natural_row l =
-    natural (field_at l 0) && (natural (field_at l 1) && (natural (field_at l 3) && (natural (field_at l 4) && (natural (field_at l 5) && natural (field_at l 6)))))
+    natural (field_at l 0) && (natural (field_at l 1) &&
+    (natural (field_at l 3) && (natural (field_at l 4) && (natural (field_at l 5) && natural (field_at l 6)))))
 
 -- the rows of the first n records
 unfoldable pub rows_of : ℕ → List ℤ → List Row

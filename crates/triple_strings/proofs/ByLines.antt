@@ -66,7 +66,13 @@ module _ (ind : List ℕ) (h : clean ind) where
       go : (b : Bool) → eqb x 0x0A ≡ b → ((k : ℕ) → k ≤ length (first xs) → undent ind k xs ≡ drop k (first xs) ++ stripped ind (others xs))
           → x ∷ undent ind (pick b (indent_size ind xs) 0) xs ≡ pick b [] (x ∷ first xs) ++ stripped ind (pick b (first xs ∷ []) [] ++ others xs)
       go true e ih =
-          rw (eqb-true x 0x0A e, ih (indent_size ind xs) (rw (size_first ind xs h) (indent_le ind (first xs))), strip_drop ind (first xs), ← size_first ind xs h)
+          rw (
+            eqb-true x 0x0A e,
+            ih (indent_size ind xs) (rw (size_first ind xs h) (indent_le ind (first xs))),
+            strip_drop ind (first xs),
+            ← size_first
+                ind xs h,
+          )
       go false e ih = rw (ih 0 (omega arith))
   undent_from (x ∷ xs) (suc k) w = go (eqb x 0x0A) w (λ v. undent_from xs k v)
     where

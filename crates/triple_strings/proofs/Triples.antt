@@ -87,7 +87,8 @@ module _ (m : Mode) (s : List ℕ) (P : Lexeme → List ℕ → List Note → Ty
 
 open_within : (m : Mode) (s : List ℕ) → 3 ≤ length s → Within s (open_triple m s)
 open_within Strict s h =
-    illegal_within s reasons.open_triple_string 0 (open_triple_end s) 0 (omega (arith, open_ge s h)) (open_le s h) (omega arith) (omega arith) (λ _. omega arith)
+    illegal_within s reasons.open_triple_string 0 (open_triple_end s) 0 (omega (arith, open_ge s h)) (open_le s h) (omega arith) (omega arith)
+    (λ _. omega arith)
 open_within Tolerant s h =
     extent_within s K.String (length s) (omega arith) (omega arith) 0 (length (dedent (raw_bytes s))) 1
     (omega (arith, value_le s h, raw_le s h)) (omega arith)

@@ -19,17 +19,23 @@ loop-k-init c = (omega arith, counting_start _)
 
 pub overflow_add-size : goal.overflow_add-size
 overflow_add-size c =
-    let size_is : (c.number_size.result ≡ length (number_text (get_or c.args.row.now c.loop-k.k (pos 0)))) × (c.number_size.result ≤ 21) = let z = get_or c.args.row.now c.loop-k.k (pos 0) in let f : SFits w64 z = search rules in let e : c.number_size.result ≡ length (number_text z) = rw (to_z-of_z w64 _ f) at c.number_size.ensures in (e, omega (arith, number_most z)) in
+    let size_is : (c.number_size.result ≡ length (number_text (get_or c.args.row.now c.loop-k.k (pos 0)))) × (c.number_size.result ≤ 21) =
+    let z = get_or c.args.row.now c.loop-k.k (pos 0) in let f : SFits w64 z = search rules in let e : c.number_size.result ≡ length (number_text z) =
+    rw (to_z-of_z w64 _ f) at c.number_size.ensures in (e, omega (arith, number_most z)) in
     record { fits = omega (arith, size_is) }
 
 pub overflow_add-size-in-loop-k : goal.overflow_add-size-in-loop-k
 overflow_add-size-in-loop-k c =
-    let size_is : (c.number_size.result ≡ length (number_text (get_or c.args.row.now c.loop-k.k (pos 0)))) × (c.number_size.result ≤ 21) = let z = get_or c.args.row.now c.loop-k.k (pos 0) in let f : SFits w64 z = search rules in let e : c.number_size.result ≡ length (number_text z) = rw (to_z-of_z w64 _ f) at c.number_size.ensures in (e, omega (arith, number_most z)) in
+    let size_is : (c.number_size.result ≡ length (number_text (get_or c.args.row.now c.loop-k.k (pos 0)))) × (c.number_size.result ≤ 21) =
+    let z = get_or c.args.row.now c.loop-k.k (pos 0) in let f : SFits w64 z = search rules in let e : c.number_size.result ≡ length (number_text z) =
+    rw (to_z-of_z w64 _ f) at c.number_size.ensures in (e, omega (arith, number_most z)) in
     record { fits = omega (arith, size_is, c.loop-k.invariant.1.sum, line_most c.args.row.now, c.requires) }
 
 pub loop-k-preserved : goal.loop-k-preserved
 loop-k-preserved c =
-    let size_is : (c.number_size.result ≡ length (number_text (get_or c.args.row.now c.loop-k.k (pos 0)))) × (c.number_size.result ≤ 21) = let z = get_or c.args.row.now c.loop-k.k (pos 0) in let f : SFits w64 z = search rules in let e : c.number_size.result ≡ length (number_text z) = rw (to_z-of_z w64 _ f) at c.number_size.ensures in (e, omega (arith, number_most z)) in
+    let size_is : (c.number_size.result ≡ length (number_text (get_or c.args.row.now c.loop-k.k (pos 0)))) × (c.number_size.result ≤ 21) =
+    let z = get_or c.args.row.now c.loop-k.k (pos 0) in let f : SFits w64 z = search rules in let e : c.number_size.result ≡ length (number_text z) =
+    rw (to_z-of_z w64 _ f) at c.number_size.ensures in (e, omega (arith, number_most z)) in
     let row = c.args.row.now in
     let k = c.loop-k.k in
     let e = line_at_lem row k c.loop-k-test.true in

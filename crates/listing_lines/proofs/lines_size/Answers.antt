@@ -16,7 +16,8 @@ loop-t-init c = search measuring_start
 
 pub token_numbers-row-requires : goal.token_numbers-row-requires
 token_numbers-row-requires c =
-    let token_is : c.next_token-t.result ≡ next_token Strict max_bytes_literal_length c.args.text.now c.loop-t.place.offset = rw c.default_bytes_limit-limit.ensures at c.next_token-t.ensures in
+    let token_is : c.next_token-t.result ≡ next_token Strict max_bytes_literal_length c.args.text.now c.loop-t.place.offset =
+    rw c.default_bytes_limit-limit.ensures at c.next_token-t.ensures in
     token_fits c.loop-t.invariant token_is (λ k. (c.type_inv.text k).fits)
 
 pub line_size-size-requires : goal.line_size-size-requires
@@ -24,24 +25,31 @@ line_size-size-requires c = rw c.token_numbers-row.ensures (omega arith)
 
 pub overflow_add-size : goal.overflow_add-size
 overflow_add-size c =
-    let token_is : c.next_token-t.result ≡ next_token Strict max_bytes_literal_length c.args.text.now c.loop-t.place.offset = rw c.default_bytes_limit-limit.ensures at c.next_token-t.ensures in
-    let size_is : c.line_size-size.result ≡ length (line_text (line_numbers (record_of 0 c.next_token-t.result))) = rw c.token_numbers-row.ensures at c.line_size-size.ensures in
+    let token_is : c.next_token-t.result ≡ next_token Strict max_bytes_literal_length c.args.text.now c.loop-t.place.offset =
+    rw c.default_bytes_limit-limit.ensures at c.next_token-t.ensures in
+    let size_is : c.line_size-size.result ≡ length (line_text (line_numbers (record_of 0 c.next_token-t.result))) =
+    rw c.token_numbers-row.ensures at c.line_size-size.ensures in
     let w = c.loop-t.invariant in
     record { fits = omega (arith, size_is, line_few w token_is, w.few, w.walkable.inside, w.walkable.short) }
 
 pub returns-then-is_eof : goal.returns-then-is_eof
 returns-then-is_eof c =
-    let token_is : c.next_token-t.result ≡ next_token Strict max_bytes_literal_length c.args.text.now c.loop-t.place.offset = rw c.default_bytes_limit-limit.ensures at c.next_token-t.ensures in
-    let size_is : c.line_size-size.result ≡ length (line_text (line_numbers (record_of 0 c.next_token-t.result))) = rw c.token_numbers-row.ensures at c.line_size-size.ensures in
+    let token_is : c.next_token-t.result ≡ next_token Strict max_bytes_literal_length c.args.text.now c.loop-t.place.offset =
+    rw c.default_bytes_limit-limit.ensures at c.next_token-t.ensures in
+    let size_is : c.line_size-size.result ≡ length (line_text (line_numbers (record_of 0 c.next_token-t.result))) =
+    rw c.token_numbers-row.ensures at c.line_size-size.ensures in
     measuring_end c.loop-t.invariant token_is size_is (eqb-true _ _ (sym c.is_eof.ensures ∙ c.if-is_eof.true))
 
 pub loop-t-smaller : goal.loop-t-smaller
 loop-t-smaller c =
-    let token_is : c.next_token-t.result ≡ next_token Strict max_bytes_literal_length c.args.text.now c.loop-t.place.offset = rw c.default_bytes_limit-limit.ensures at c.next_token-t.ensures in
+    let token_is : c.next_token-t.result ≡ next_token Strict max_bytes_literal_length c.args.text.now c.loop-t.place.offset =
+    rw c.default_bytes_limit-limit.ensures at c.next_token-t.ensures in
     measuring_less c.loop-t.invariant token_is (eqb-false _ _ (sym c.is_eof.ensures ∙ c.if-is_eof.false))
 
 pub loop-t-preserved : goal.loop-t-preserved
 loop-t-preserved c =
-    let token_is : c.next_token-t.result ≡ next_token Strict max_bytes_literal_length c.args.text.now c.loop-t.place.offset = rw c.default_bytes_limit-limit.ensures at c.next_token-t.ensures in
-    let size_is : c.line_size-size.result ≡ length (line_text (line_numbers (record_of 0 c.next_token-t.result))) = rw c.token_numbers-row.ensures at c.line_size-size.ensures in
+    let token_is : c.next_token-t.result ≡ next_token Strict max_bytes_literal_length c.args.text.now c.loop-t.place.offset =
+    rw c.default_bytes_limit-limit.ensures at c.next_token-t.ensures in
+    let size_is : c.line_size-size.result ≡ length (line_text (line_numbers (record_of 0 c.next_token-t.result))) =
+    rw c.token_numbers-row.ensures at c.line_size-size.ensures in
     measuring_turn c.loop-t.invariant token_is (eqb-false _ _ (sym c.is_eof.ensures ∙ c.if-is_eof.false)) size_is

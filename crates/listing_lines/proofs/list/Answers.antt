@@ -15,18 +15,24 @@ returns-then-out-size c = short_listed _ _ _ _ _ (rw c.listing_size-size.ensures
 
 pub put_lines-requires : goal.put_lines-requires
 put_lines-requires c =
-    let reading : let a = c.args in let w = c.read_text in ReadsText Strict max_bytes_literal_length a.text.now a.tokens.now a.strings.now a.reports.now w.result w.new.tokens w.new.strings w.new.reports = rw c.default_bytes_limit-limit.ensures at c.read_text.ensures in
+    let reading : let a = c.args in let w = c.read_text in ReadsText Strict max_bytes_literal_length a.text.now a.tokens.now a.strings.now
+    a.reports.now w.result w.new.tokens w.new.strings w.new.reports =
+    rw c.default_bytes_limit-limit.ensures at c.read_text.ensures in
     let room : let a = c.args in lines_size a.text.now ≤ length a.out.now = omega (arith, c.listing_size-size.ensures, c.if-out-size.false) in
     ((text_inside reading c.in-Counts.is).0, rw (rows_are reading c.in-Counts.is) (omega (arith, size_is reading c.in-Counts.is, room)))
 
 pub returns-in-Counts : goal.returns-in-Counts
 returns-in-Counts c =
-    let reading : let a = c.args in let w = c.read_text in ReadsText Strict max_bytes_literal_length a.text.now a.tokens.now a.strings.now a.reports.now w.result w.new.tokens w.new.strings w.new.reports = rw c.default_bytes_limit-limit.ensures at c.read_text.ensures in
+    let reading : let a = c.args in let w = c.read_text in ReadsText Strict max_bytes_literal_length a.text.now a.tokens.now a.strings.now
+    a.reports.now w.result w.new.tokens w.new.strings w.new.reports =
+    rw c.default_bytes_limit-limit.ensures at c.read_text.ensures in
     let room : let a = c.args in lines_size a.text.now ≤ length a.out.now = omega (arith, c.listing_size-size.ensures, c.if-out-size.false) in
     tokens_listed reading c.in-Counts.is c.listing_size-size.ensures room c.put_lines.ensures
 
 pub returns-in-Refused : goal.returns-in-Refused
 returns-in-Refused c =
-    let reading : let a = c.args in let w = c.read_text in ReadsText Strict max_bytes_literal_length a.text.now a.tokens.now a.strings.now a.reports.now w.result w.new.tokens w.new.strings w.new.reports = rw c.default_bytes_limit-limit.ensures at c.read_text.ensures in
+    let reading : let a = c.args in let w = c.read_text in ReadsText Strict max_bytes_literal_length a.text.now a.tokens.now a.strings.now
+    a.reports.now w.result w.new.tokens w.new.strings w.new.reports =
+    rw c.default_bytes_limit-limit.ensures at c.read_text.ensures in
     let room : let a = c.args in lines_size a.text.now ≤ length a.out.now = omega (arith, c.listing_size-size.ensures, c.if-out-size.false) in
     refusal_listed reading c.in-Refused.is c.number.result c.number.ensures room c.put_refusal.ensures

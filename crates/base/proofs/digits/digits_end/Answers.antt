@@ -20,10 +20,12 @@ reach_kind-requires c = (refl, search rules)
 
 pub returns-then-i-eq0 : goal.returns-then-i-eq0
 unfolding kind_test
-returns-then-i-eq0 c = (rw rest_is at c.reach_kind.ensures) ∙ (let it : let l = c in let a = l.args in reach in_digits a.s.now (l.loop-i.i + 1) ≡ reach in_digits a.s.now a.at = search (loop_step, passed) in it)
+returns-then-i-eq0 c = (rw rest_is at c.reach_kind.ensures) ∙
+    (let it : let l = c in let a = l.args in reach in_digits a.s.now (l.loop-i.i + 1) ≡ reach in_digits a.s.now a.at = search (loop_step, passed) in it)
 
 pub loop-i-preserved : goal.loop-i-preserved
-loop-i-preserved c = (let it : let l = c in let a = l.args in reach in_digits a.s.now (l.loop-i.i + 1) ≡ reach in_digits a.s.now a.at = search (loop_step, passed) in it)
+loop-i-preserved c = (let it : let l = c in let a = l.args in reach in_digits a.s.now (l.loop-i.i + 1) ≡ reach in_digits a.s.now a.at = search
+    (loop_step, passed) in it)
 
 pub returns : goal.returns
 returns c = search loop_end

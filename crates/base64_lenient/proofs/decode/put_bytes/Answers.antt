@@ -22,23 +22,31 @@ next_group-group-requires c = (refl, c.whole_groups-n.ensures.inside)
 
 pub put_group-requires : goal.put_group-requires
 put_group-requires c =
-    let whole : let a = c.args in let n = c.whole_groups-n.result in Storing (bytes_from a.run.now 0) a.out.now 0 (bytes_from a.run.now (c.loop-i.i + n * 4)) c.whole_groups-n.new.out (c.loop-i.o + n * 3) = whole_stored _ _ c.loop-i.invariant.1 c.whole_groups-n.ensures in
+    let whole : let a = c.args in let n = c.whole_groups-n.result in Storing (bytes_from a.run.now 0) a.out.now 0
+    (bytes_from a.run.now (c.loop-i.i + n * 4)) c.whole_groups-n.new.out (c.loop-i.o + n * 3) =
+    whole_stored _ _ c.loop-i.invariant.1 c.whole_groups-n.ensures in
     let e = c.next_group-group.ensures in
     (e.gathered.few, group_room _ _ whole e, e.gathered.small)
 
 pub shape_of-out-then-count-lt4 : goal.shape_of-out-then-count-lt4
 shape_of-out-then-count-lt4 c =
-    let whole : let a = c.args in let n = c.whole_groups-n.result in Storing (bytes_from a.run.now 0) a.out.now 0 (bytes_from a.run.now (c.loop-i.i + n * 4)) c.whole_groups-n.new.out (c.loop-i.o + n * 3) = whole_stored _ _ c.loop-i.invariant.1 c.whole_groups-n.ensures in
+    let whole : let a = c.args in let n = c.whole_groups-n.result in Storing (bytes_from a.run.now 0) a.out.now 0
+    (bytes_from a.run.now (c.loop-i.i + n * 4)) c.whole_groups-n.new.out (c.loop-i.o + n * 3) =
+    whole_stored _ _ c.loop-i.invariant.1 c.whole_groups-n.ensures in
     ap length (last_stored _ _ whole c.next_group-group.ensures _ c.put_group.ensures c.if-count-lt4.true) ∙ simp length-sets
 
 pub returns-then-count-lt4 : goal.returns-then-count-lt4
 returns-then-count-lt4 c =
-    let whole : let a = c.args in let n = c.whole_groups-n.result in Storing (bytes_from a.run.now 0) a.out.now 0 (bytes_from a.run.now (c.loop-i.i + n * 4)) c.whole_groups-n.new.out (c.loop-i.o + n * 3) = whole_stored _ _ c.loop-i.invariant.1 c.whole_groups-n.ensures in
+    let whole : let a = c.args in let n = c.whole_groups-n.result in Storing (bytes_from a.run.now 0) a.out.now 0
+    (bytes_from a.run.now (c.loop-i.i + n * 4)) c.whole_groups-n.new.out (c.loop-i.o + n * 3) =
+    whole_stored _ _ c.loop-i.invariant.1 c.whole_groups-n.ensures in
     last_stored _ _ whole c.next_group-group.ensures _ c.put_group.ensures c.if-count-lt4.true
 
 pub loop-i-preserved : goal.loop-i-preserved
 loop-i-preserved c =
-    let whole : let a = c.args in let n = c.whole_groups-n.result in Storing (bytes_from a.run.now 0) a.out.now 0 (bytes_from a.run.now (c.loop-i.i + n * 4)) c.whole_groups-n.new.out (c.loop-i.o + n * 3) = whole_stored _ _ c.loop-i.invariant.1 c.whole_groups-n.ensures in
+    let whole : let a = c.args in let n = c.whole_groups-n.result in Storing (bytes_from a.run.now 0) a.out.now 0
+    (bytes_from a.run.now (c.loop-i.i + n * 4)) c.whole_groups-n.new.out (c.loop-i.o + n * 3) =
+    whole_stored _ _ c.loop-i.invariant.1 c.whole_groups-n.ensures in
     let e = c.next_group-group.ensures in
     (e.gathered.inside, group_stored _ _ whole e _ c.put_group.ensures c.if-count-lt4.false)
 

@@ -13,13 +13,31 @@ loop-n-init c = simp add-zero (omega arith, storing_first (omega arith))
 
 pub put_three-requires : goal.put_three-requires
 put_three-requires c =
-    let together : Together c.args.run.now (c.args.at + c.loop-n.n * 4) c.value_of-a.result c.value_of-b.result c.value_of-c.result c.value_of-d.result = record { inside = omega arith; first = c.value_of-a.ensures; second = c.value_of-b.ensures; third = c.value_of-c.ensures; fourth = c.value_of-d.ensures; small = all_small _ _ _ _ c.if-a-b.true } in
+    let together : Together c.args.run.now (c.args.at + c.loop-n.n * 4) c.value_of-a.result c.value_of-b.result c.value_of-c.result c.value_of-d.result =
+    record {
+      inside = omega arith;
+      first = c.value_of-a.ensures;
+      second = c.value_of-b.ensures;
+      third = c.value_of-c.ensures;
+      fourth =
+          c.value_of-d.ensures;
+      small = all_small _ _ _ _ c.if-a-b.true;
+    } in
     let k = together in
     (together_room _ _ c.loop-n.invariant.1 k, k.small.0, k.small.1, k.small.2, k.small.3)
 
 pub loop-n-preserved : goal.loop-n-preserved
 loop-n-preserved c =
-    let together : Together c.args.run.now (c.args.at + c.loop-n.n * 4) c.value_of-a.result c.value_of-b.result c.value_of-c.result c.value_of-d.result = record { inside = omega arith; first = c.value_of-a.ensures; second = c.value_of-b.ensures; third = c.value_of-c.ensures; fourth = c.value_of-d.ensures; small = all_small _ _ _ _ c.if-a-b.true } in
+    let together : Together c.args.run.now (c.args.at + c.loop-n.n * 4) c.value_of-a.result c.value_of-b.result c.value_of-c.result c.value_of-d.result =
+    record {
+      inside = omega arith;
+      first = c.value_of-a.ensures;
+      second = c.value_of-b.ensures;
+      third = c.value_of-c.ensures;
+      fourth =
+          c.value_of-d.ensures;
+      small = all_small _ _ _ _ c.if-a-b.true;
+    } in
     let a = c.args in
     let e : a.at + (c.loop-n.n + 1) * 4 ≡ a.at + c.loop-n.n * 4 + 4 = omega arith in
     let f : a.to + (c.loop-n.n + 1) * 3 ≡ a.to + c.loop-n.n * 3 + 3 = omega arith in
@@ -31,7 +49,8 @@ shape_of-out-else-a-b c = c.loop-n.invariant.1.same
 
 pub returns-else-a-b : goal.returns-else-a-b
 returns-else-a-b c =
-    let whole : let a = c.args in WholeGroups a.run.now a.at a.out.now a.to c.loop-n.n c.loop-n.out = record { inside = c.loop-n.invariant.0; reached = omega (arith, c.loop-n.invariant.1.reached); stored = c.loop-n.invariant.1.is } in
+    let whole : let a = c.args in WholeGroups a.run.now a.at a.out.now a.to c.loop-n.n c.loop-n.out =
+    record { inside = c.loop-n.invariant.0; reached = omega (arith, c.loop-n.invariant.1.reached); stored = c.loop-n.invariant.1.is } in
     whole
 
 pub shape_of-out : goal.shape_of-out
@@ -39,5 +58,6 @@ shape_of-out c = c.loop-n.invariant.1.same
 
 pub returns : goal.returns
 returns c =
-    let whole : let a = c.args in WholeGroups a.run.now a.at a.out.now a.to c.loop-n.n c.loop-n.out = record { inside = c.loop-n.invariant.0; reached = omega (arith, c.loop-n.invariant.1.reached); stored = c.loop-n.invariant.1.is } in
+    let whole : let a = c.args in WholeGroups a.run.now a.at a.out.now a.to c.loop-n.n c.loop-n.out =
+    record { inside = c.loop-n.invariant.0; reached = omega (arith, c.loop-n.invariant.1.reached); stored = c.loop-n.invariant.1.is } in
     whole

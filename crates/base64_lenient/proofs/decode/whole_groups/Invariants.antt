@@ -6,7 +6,8 @@ use Rattle.base64_lenient.specs.Helpers.{bytes_from}
 use Rattle.base64_lenient.proofs.decode.whole_groups.Given as goal
 
 abbrev pub invariant-loop-n : goal.invariant-loop-n
-invariant-loop-n l = (l.at + l.n * 4 ≤ length l.run) × Storing (bytes_from l.run l.at) l.initial.out l.to (bytes_from l.run (l.at + l.n * 4)) l.out (l.to + l.n * 3)
+invariant-loop-n l = (l.at + l.n * 4 ≤ length l.run) × Storing (bytes_from l.run l.at) l.initial.out l.to (bytes_from l.run (l.at + l.n * 4)) l.out
+    (l.to + l.n * 3)
 
 abbrev pub decreases-loop-n : goal.decreases-loop-n
 decreases-loop-n l = length l.run - (l.at + l.n * 4)

@@ -24,7 +24,8 @@ all-seen-requires c = let u = c.rows-passed.ensures.0 in
 
 pub returns-then-seen-eq0 : goal.returns-then-seen-eq0
 returns-then-seen-eq0 c =
-    let further : SeenTo c.args.run.now c.all-seen.result c.block_end-end.result = seen_further _ _ _ c.rows-passed.ensures.0 _ c.block_end-end.ensures.0 c.block_end-end.ensures.1 _ c.all-seen.ensures in
+    let further : SeenTo c.args.run.now c.all-seen.result c.block_end-end.result =
+    seen_further _ _ _ c.rows-passed.ensures.0 _ c.block_end-end.ensures.0 c.block_end-end.ensures.1 _ c.all-seen.ensures in
     dead_is _ _ _ further c.if-seen-eq0.true
 
 -- the block has a byte, or what stood before it has
@@ -38,7 +39,8 @@ loop-i-smaller c = let run = c.args.run.now in
 
 pub loop-i-preserved : goal.loop-i-preserved
 loop-i-preserved c =
-    let further : SeenTo c.args.run.now c.all-seen.result c.block_end-end.result = seen_further _ _ _ c.rows-passed.ensures.0 _ c.block_end-end.ensures.0 c.block_end-end.ensures.1 _ c.all-seen.ensures in
+    let further : SeenTo c.args.run.now c.all-seen.result c.block_end-end.result =
+    seen_further _ _ _ c.rows-passed.ensures.0 _ c.block_end-end.ensures.0 c.block_end-end.ensures.1 _ c.all-seen.ensures in
     further
 
 pub returns : goal.returns

@@ -19,7 +19,9 @@ pub returns-in_default : goal.returns-in_default
 unfolding with_sign
 returns-in_default c =
     let s : List ℕ = c.args.s.now in
-    let summed : (neg : Bool) (t : Total) → c.sum-total.result ≡ t → with_sign neg t ≡ parse_unsigned neg s = λ neg t q. ap (with_sign neg) (sym q ∙ c.sum-total.ensures) ∙ run_sum neg s c.if-n-eq0.false (ap (λ (b : ℕ). eqb (length s) 1 && eqb b 48) (sym c.peek.ensures) ∙ c.if-n-peek.false) in
+    let summed : (neg : Bool) (t : Total) → c.sum-total.result ≡ t → with_sign neg t ≡ parse_unsigned neg s =
+    λ neg t q. ap (with_sign neg) (sym q ∙ c.sum-total.ensures) ∙ run_sum neg s c.if-n-eq0.false
+    (ap (λ (b : ℕ). eqb (length s) 1 && eqb b 48) (sym c.peek.ensures) ∙ c.if-n-peek.false) in
     summed _ _ c.in_default.is
 
 pub signed-requires : goal.signed-requires
@@ -30,5 +32,7 @@ pub returns : goal.returns
 unfolding with_sign
 returns c =
     let s : List ℕ = c.args.s.now in
-    let summed : (neg : Bool) (t : Total) → c.sum-total.result ≡ t → with_sign neg t ≡ parse_unsigned neg s = λ neg t q. ap (with_sign neg) (sym q ∙ c.sum-total.ensures) ∙ run_sum neg s c.if-n-eq0.false (ap (λ (b : ℕ). eqb (length s) 1 && eqb b 48) (sym c.peek.ensures) ∙ c.if-n-peek.false) in
+    let summed : (neg : Bool) (t : Total) → c.sum-total.result ≡ t → with_sign neg t ≡ parse_unsigned neg s =
+    λ neg t q. ap (with_sign neg) (sym q ∙ c.sum-total.ensures) ∙ run_sum neg s c.if-n-eq0.false
+    (ap (λ (b : ℕ). eqb (length s) 1 && eqb b 48) (sym c.peek.ensures) ∙ c.if-n-peek.false) in
     c.signed.ensures ∙ summed _ _ c.in-Sum.is

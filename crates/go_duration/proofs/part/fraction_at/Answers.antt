@@ -18,11 +18,13 @@ after_is d e n m p q = cc
 
 pub overflow_add-result : goal.overflow_add-result
 overflow_add-result c =
-    let point_in : c.args.at < length c.args.s.now = let a = c.args in in_text (λ b. eqb b 46) a.s.now a.at refl (eq-eqb _ _ (sym c.peek.ensures ∙ c.if-peek-eq46.true)) in
+    let point_in : c.args.at < length c.args.s.now =
+    let a = c.args in in_text (λ b. eqb b 46) a.s.now a.at refl (eq-eqb _ _ (sym c.peek.ensures ∙ c.if-peek-eq46.true)) in
     let a = c.args in
     let rest : List ℕ = drop (a.at + 1) a.s.now in
     let digits_are : c.leading_fraction-digits.result ≡ fraction_of (read_digits rest no_digits) = rw rest_is at c.leading_fraction-digits.ensures in
-    let count_is : c.leading_fraction-digits.result.count ≡ count_of (read_digits rest no_digits) = ap count_of (acc_is c.leading_fraction-digits.result (read_digits rest no_digits) digits_are) in
+    let count_is : c.leading_fraction-digits.result.count ≡ count_of (read_digits rest no_digits) =
+    ap count_of (acc_is c.leading_fraction-digits.result (read_digits rest no_digits) digits_are) in
     omega (arith, read_end_at a.s.now (a.at + 1), reach_le in_digits a.s.now (a.at + 1) (omega arith))
 
 pub returns-then-peek-eq46 : goal.returns-then-peek-eq46
@@ -30,7 +32,8 @@ unfolding fraction_at
 returns-then-peek-eq46 c =
     let rest : List ℕ = let a = c.args in drop (a.at + 1) a.s.now in
     let digits_are : c.leading_fraction-digits.result ≡ fraction_of (read_digits rest no_digits) = rw rest_is at c.leading_fraction-digits.ensures in
-    let count_is : c.leading_fraction-digits.result.count ≡ count_of (read_digits rest no_digits) = ap count_of (acc_is c.leading_fraction-digits.result (read_digits rest no_digits) digits_are) in
+    let count_is : c.leading_fraction-digits.result.count ≡ count_of (read_digits rest no_digits) =
+    ap count_of (acc_is c.leading_fraction-digits.result (read_digits rest no_digits) digits_are) in
     rw (← c.peek.ensures, c.if-peek-eq46.true) (after_is c.leading_fraction-digits.result _ _ _ digits_are count_is)
 
 pub returns : goal.returns

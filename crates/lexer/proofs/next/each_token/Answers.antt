@@ -11,21 +11,27 @@ use Rattle.lexer.proofs.next.each_token.Goals as goal
 
 pub step-requires : goal.step-requires
 step-requires c =
-    let start_in : Walkable c.args.text.now c.past_blanks-start.result c.past_blanks-start.result.offset = past_place c.requires.0 c.past_blanks-start.ensures in
-    let is_mark : IsEof (mark_of (byte c.args.text.now c.past_blanks-start.result.offset)) → ⊥ = rw (← c.peek-b.ensures, ← c.mark-kind.ensures) (eqb-false _ _ (sym c.is_eof.ensures ∙ c.if-not-is_eof.true)) in
+    let start_in : Walkable c.args.text.now c.past_blanks-start.result c.past_blanks-start.result.offset =
+    past_place c.requires.0 c.past_blanks-start.ensures in
+    let is_mark : IsEof (mark_of (byte c.args.text.now c.past_blanks-start.result.offset)) → ⊥ =
+    rw (← c.peek-b.ensures, ← c.mark-kind.ensures) (eqb-false _ _ (sym c.is_eof.ensures ∙ c.if-not-is_eof.true)) in
     mark_steppable start_in is_mark
 
 pub placed-requires : goal.placed-requires
 placed-requires c =
-    let start_in : Walkable c.args.text.now c.past_blanks-start.result c.past_blanks-start.result.offset = past_place c.requires.0 c.past_blanks-start.ensures in
-    let is_mark : IsEof (mark_of (byte c.args.text.now c.past_blanks-start.result.offset)) → ⊥ = rw (← c.peek-b.ensures, ← c.mark-kind.ensures) (eqb-false _ _ (sym c.is_eof.ensures ∙ c.if-not-is_eof.true)) in
+    let start_in : Walkable c.args.text.now c.past_blanks-start.result c.past_blanks-start.result.offset =
+    past_place c.requires.0 c.past_blanks-start.ensures in
+    let is_mark : IsEof (mark_of (byte c.args.text.now c.past_blanks-start.result.offset)) → ⊥ =
+    rw (← c.peek-b.ensures, ← c.mark-kind.ensures) (eqb-false _ _ (sym c.is_eof.ensures ∙ c.if-not-is_eof.true)) in
     let a = c.args in
     rw (c.mark_lexeme.ensures, c.mark-kind.ensures, c.peek-b.ensures) (mark_placing start_in is_mark a.mode a.limit)
 
 pub returns-then-not-is_eof : goal.returns-then-not-is_eof
 returns-then-not-is_eof c =
-    let start_in : Walkable c.args.text.now c.past_blanks-start.result c.past_blanks-start.result.offset = past_place c.requires.0 c.past_blanks-start.ensures in
-    let is_mark : IsEof (mark_of (byte c.args.text.now c.past_blanks-start.result.offset)) → ⊥ = rw (← c.peek-b.ensures, ← c.mark-kind.ensures) (eqb-false _ _ (sym c.is_eof.ensures ∙ c.if-not-is_eof.true)) in
+    let start_in : Walkable c.args.text.now c.past_blanks-start.result c.past_blanks-start.result.offset =
+    past_place c.requires.0 c.past_blanks-start.ensures in
+    let is_mark : IsEof (mark_of (byte c.args.text.now c.past_blanks-start.result.offset)) → ⊥ =
+    rw (← c.peek-b.ensures, ← c.mark-kind.ensures) (eqb-false _ _ (sym c.is_eof.ensures ∙ c.if-not-is_eof.true)) in
     c.placed.ensures
     ∙ rw (c.step.ensures, c.mark_lexeme.ensures, c.mark-kind.ensures, c.peek-b.ensures)
     (mark_token start_in is_mark c.args.mode c.args.limit)
@@ -33,7 +39,8 @@ returns-then-not-is_eof c =
 
 pub token_from-requires : goal.token_from-requires
 token_from-requires c =
-    let start_in : Walkable c.args.text.now c.past_blanks-start.result c.past_blanks-start.result.offset = past_place c.requires.0 c.past_blanks-start.ensures in
+    let start_in : Walkable c.args.text.now c.past_blanks-start.result c.past_blanks-start.result.offset =
+    past_place c.requires.0 c.past_blanks-start.ensures in
     (start_in, c.requires.1)
 
 pub returns : goal.returns

@@ -15,7 +15,8 @@ use Rattle.lexer.proofs.next.next_lexeme.Goals as goal
 pub returns-then-not-is_eof : goal.returns-then-not-is_eof
 unfolding found_at
 returns-then-not-is_eof c =
-    let is_mark : IsEof (mark_of (byte c.args.text.now c.skip_spaces-start.result)) → ⊥ = rw (← c.peek.ensures, ← c.mark-kind.ensures) (eqb-false _ _ (sym c.is_eof.ensures ∙ c.if-not-is_eof.true)) in
+    let is_mark : IsEof (mark_of (byte c.args.text.now c.skip_spaces-start.result)) → ⊥ =
+    rw (← c.peek.ensures, ← c.mark-kind.ensures) (eqb-false _ _ (sym c.is_eof.ensures ∙ c.if-not-is_eof.true)) in
     let a = c.args in
     rw (← c.skip_spaces-start.ensures, mark_is a.text.now c.skip_spaces-start.result is_mark a.mode a.limit)
     (rw (← c.peek.ensures, ← c.mark-kind.ensures, ← c.mark_lexeme-lexeme.ensures))

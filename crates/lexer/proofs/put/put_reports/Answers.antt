@@ -33,14 +33,16 @@ pub put_at_start-requires-then-a-eq98 : goal.put_at_start-requires-then-a-eq98
 put_at_start-requires-then-a-eq98 c =
     let rest : List ℕ = drop c.args.start.offset c.args.text.now in
     let first_is : byte rest 0 ≡ c.peek-a.result = sym (rw rest_is at c.peek-a.ensures) in
-    let bytes : OneReport c.requires c.bytes_reason-reason.result = bytes_report c.requires (rw rest_is at c.bytes_reason-reason.ensures) (first_is ∙ c.if-a-eq98.true) in
+    let bytes : OneReport c.requires c.bytes_reason-reason.result =
+    bytes_report c.requires (rw rest_is at c.bytes_reason-reason.ensures) (first_is ∙ c.if-a-eq98.true) in
     (c.requires.walkable, rw c.bytes_reason-reason.ensures (stop_small _), bytes.room_for)
 
 pub returns-then-a-eq98 : goal.returns-then-a-eq98
 returns-then-a-eq98 c =
     let rest : List ℕ = drop c.args.start.offset c.args.text.now in
     let first_is : byte rest 0 ≡ c.peek-a.result = sym (rw rest_is at c.peek-a.ensures) in
-    let bytes : OneReport c.requires c.bytes_reason-reason.result = bytes_report c.requires (rw rest_is at c.bytes_reason-reason.ensures) (first_is ∙ c.if-a-eq98.true) in
+    let bytes : OneReport c.requires c.bytes_reason-reason.result =
+    bytes_report c.requires (rw rest_is at c.bytes_reason-reason.ensures) (first_is ∙ c.if-a-eq98.true) in
     rw bytes.is c.put_at_start-then-a-eq98.ensures
 
 pub put_at_start-requires-then-at_quotes : goal.put_at_start-requires-then-at_quotes
@@ -62,7 +64,8 @@ put_string_notes-requires c =
     let rest : List ℕ = drop c.args.start.offset c.args.text.now in
     let first_is : byte rest 0 ≡ c.peek-a.result = sym (rw rest_is at c.peek-a.ensures) in
     let quotes_are : quotes rest ≡ c.at_quotes.result = sym (rw rest_is at c.at_quotes.ensures) in
-    let literal : notes_in c.args.mode c.args.limit rest ≡ string_notes (mode_of c.args.mode) rest = quote_report c.requires (λ z. c.if-a-eq47.false (sym first_is ∙ z)) (λ z. c.if-a-eq98.false (sym first_is ∙ z)) (quotes_are ∙ c.if-at_quotes.false) in
+    let literal : notes_in c.args.mode c.args.limit rest ≡ string_notes (mode_of c.args.mode) rest =
+    quote_report c.requires (λ z. c.if-a-eq47.false (sym first_is ∙ z)) (λ z. c.if-a-eq98.false (sym first_is ∙ z)) (quotes_are ∙ c.if-at_quotes.false) in
     let q = c.requires in
     let w = q.walkable in
     rw c.mode.ensures
@@ -73,5 +76,6 @@ returns c =
     let rest : List ℕ = drop c.args.start.offset c.args.text.now in
     let first_is : byte rest 0 ≡ c.peek-a.result = sym (rw rest_is at c.peek-a.ensures) in
     let quotes_are : quotes rest ≡ c.at_quotes.result = sym (rw rest_is at c.at_quotes.ensures) in
-    let literal : notes_in c.args.mode c.args.limit rest ≡ string_notes (mode_of c.args.mode) rest = quote_report c.requires (λ z. c.if-a-eq47.false (sym first_is ∙ z)) (λ z. c.if-a-eq98.false (sym first_is ∙ z)) (quotes_are ∙ c.if-at_quotes.false) in
+    let literal : notes_in c.args.mode c.args.limit rest ≡ string_notes (mode_of c.args.mode) rest =
+    quote_report c.requires (λ z. c.if-a-eq47.false (sym first_is ∙ z)) (λ z. c.if-a-eq98.false (sym first_is ∙ z)) (quotes_are ∙ c.if-at_quotes.false) in
     rw (literal, ← c.mode.ensures) c.put_string_notes.ensures

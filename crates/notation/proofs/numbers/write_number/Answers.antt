@@ -14,13 +14,15 @@ use Rattle.notation.proofs.numbers.write_number.Goals as goal
 
 pub copy-requires : goal.copy-requires
 copy-requires c =
-    let written : EndsWith (number_text c.args.z) (replicate 22 c.args.after) c.put_number-start.new.out c.put_number-start.result = rw (to_z-of_z w64 c.args.z c.ranges.z) at c.put_number-start.ensures in
+    let written : EndsWith (number_text c.args.z) (replicate 22 c.args.after) c.put_number-start.new.out c.put_number-start.result =
+    rw (to_z-of_z w64 c.args.z c.ranges.z) at c.put_number-start.ensures in
     let w = written in
     (omega (arith, text_size w refl), omega (arith, w.kept, w.inside))
 
 pub returns : goal.returns
 returns c =
-    let written : EndsWith (number_text c.args.z) (replicate 22 c.args.after) c.put_number-start.new.out c.put_number-start.result = rw (to_z-of_z w64 c.args.z c.ranges.z) at c.put_number-start.ensures in
+    let written : EndsWith (number_text c.args.z) (replicate 22 c.args.after) c.put_number-start.new.out c.put_number-start.result =
+    rw (to_z-of_z w64 c.args.z c.ranges.z) at c.put_number-start.ensures in
     let w = written in
     let n = text_size w refl in
     let t = number_text c.args.z ++ (c.args.after ∷ []) in

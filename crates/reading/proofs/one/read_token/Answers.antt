@@ -65,7 +65,17 @@ put_record-requires c =
     let bytes : AreBytes c.args.text.now = λ k. (c.type_inv.text k).fits in
     let fit : judge_of c.args.text.now ≡ Fit = sym c.judge.ensures ∙ c.in-Fit.is in
     let placed : let a = c.args in is_place a.text.now a.place ≡ true = sym c.is_place.ensures ∙ c.if-not-is_place.false in
-    let passed : let a = c.args in Passed a.mode a.limit a.text.now a.place a.tokens.now a.strings.now a.reports.now c.next_token-t.result c.string_size-size.result = record { fit = fit; place = placed; tokens = c.if-tokens-lt-RECORD_WIDTH.false; token = c.next_token-t.ensures; size = c.string_size-size.ensures; strings = c.if-strings-size.false; reports = c.if-reports-count.false } in
+    let passed : let a = c.args in Passed a.mode a.limit a.text.now a.place a.tokens.now a.strings.now a.reports.now c.next_token-t.result
+    c.string_size-size.result =
+    record {
+      fit = fit;
+      place = placed;
+      tokens = c.if-tokens-lt-RECORD_WIDTH.false;
+      token = c.next_token-t.ensures;
+      size = c.string_size-size.ensures;
+      strings = c.if-strings-size.false;
+      reports = c.if-reports-count.false;
+    } in
     (room passed bytes).of_record
 
 pub put_value-requires : goal.put_value-requires
@@ -73,7 +83,17 @@ put_value-requires c =
     let bytes : AreBytes c.args.text.now = λ k. (c.type_inv.text k).fits in
     let fit : judge_of c.args.text.now ≡ Fit = sym c.judge.ensures ∙ c.in-Fit.is in
     let placed : let a = c.args in is_place a.text.now a.place ≡ true = sym c.is_place.ensures ∙ c.if-not-is_place.false in
-    let passed : let a = c.args in Passed a.mode a.limit a.text.now a.place a.tokens.now a.strings.now a.reports.now c.next_token-t.result c.string_size-size.result = record { fit = fit; place = placed; tokens = c.if-tokens-lt-RECORD_WIDTH.false; token = c.next_token-t.ensures; size = c.string_size-size.ensures; strings = c.if-strings-size.false; reports = c.if-reports-count.false } in
+    let passed : let a = c.args in Passed a.mode a.limit a.text.now a.place a.tokens.now a.strings.now a.reports.now c.next_token-t.result
+    c.string_size-size.result =
+    record {
+      fit = fit;
+      place = placed;
+      tokens = c.if-tokens-lt-RECORD_WIDTH.false;
+      token = c.next_token-t.ensures;
+      size = c.string_size-size.ensures;
+      strings = c.if-strings-size.false;
+      reports = c.if-reports-count.false;
+    } in
     (room passed bytes).of_string
 
 pub put_notes-requires : goal.put_notes-requires
@@ -81,13 +101,33 @@ put_notes-requires c =
     let bytes : AreBytes c.args.text.now = λ k. (c.type_inv.text k).fits in
     let fit : judge_of c.args.text.now ≡ Fit = sym c.judge.ensures ∙ c.in-Fit.is in
     let placed : let a = c.args in is_place a.text.now a.place ≡ true = sym c.is_place.ensures ∙ c.if-not-is_place.false in
-    let passed : let a = c.args in Passed a.mode a.limit a.text.now a.place a.tokens.now a.strings.now a.reports.now c.next_token-t.result c.string_size-size.result = record { fit = fit; place = placed; tokens = c.if-tokens-lt-RECORD_WIDTH.false; token = c.next_token-t.ensures; size = c.string_size-size.ensures; strings = c.if-strings-size.false; reports = c.if-reports-count.false } in
+    let passed : let a = c.args in Passed a.mode a.limit a.text.now a.place a.tokens.now a.strings.now a.reports.now c.next_token-t.result
+    c.string_size-size.result =
+    record {
+      fit = fit;
+      place = placed;
+      tokens = c.if-tokens-lt-RECORD_WIDTH.false;
+      token = c.next_token-t.ensures;
+      size = c.string_size-size.ensures;
+      strings = c.if-strings-size.false;
+      reports = c.if-reports-count.false;
+    } in
     (room passed bytes).of_notes
 
 pub returns : goal.returns
 returns c =
     let fit : judge_of c.args.text.now ≡ Fit = sym c.judge.ensures ∙ c.in-Fit.is in
     let placed : let a = c.args in is_place a.text.now a.place ≡ true = sym c.is_place.ensures ∙ c.if-not-is_place.false in
-    let passed : let a = c.args in Passed a.mode a.limit a.text.now a.place a.tokens.now a.strings.now a.reports.now c.next_token-t.result c.string_size-size.result = record { fit = fit; place = placed; tokens = c.if-tokens-lt-RECORD_WIDTH.false; token = c.next_token-t.ensures; size = c.string_size-size.ensures; strings = c.if-strings-size.false; reports = c.if-reports-count.false } in
+    let passed : let a = c.args in Passed a.mode a.limit a.text.now a.place a.tokens.now a.strings.now a.reports.now c.next_token-t.result
+    c.string_size-size.result =
+    record {
+      fit = fit;
+      place = placed;
+      tokens = c.if-tokens-lt-RECORD_WIDTH.false;
+      token = c.next_token-t.ensures;
+      size = c.string_size-size.ensures;
+      strings = c.if-strings-size.false;
+      reports = c.if-reports-count.false;
+    } in
     done passed
     (record { of_record = c.put_record.ensures; of_string = c.put_value.ensures; of_notes = c.put_notes.ensures })

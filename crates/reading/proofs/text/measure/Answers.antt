@@ -12,7 +12,10 @@ pub returns-then-is_eof : goal.returns-then-is_eof
 returns-then-is_eof c = measuring_end c.loop-mode.invariant c.next_lexeme-found.ensures (eqb-true _ _ (sym c.is_eof.ensures ∙ c.if-is_eof.true))
 
 pub overflow_add-strings : goal.overflow_add-strings
-overflow_add-strings c = record { fits = omega (arith, c.string_size-strings.ensures, measuring_few c.loop-mode.invariant c.next_lexeme-found.ensures, c.requires.0) }
+overflow_add-strings c = record {
+  fits = omega
+      (arith, c.string_size-strings.ensures, measuring_few c.loop-mode.invariant c.next_lexeme-found.ensures, c.requires.0);
+}
 
 pub overflow_add-reports : goal.overflow_add-reports
 overflow_add-reports c = record { fits = omega (arith, measuring_few c.loop-mode.invariant c.next_lexeme-found.ensures, c.requires.0) }

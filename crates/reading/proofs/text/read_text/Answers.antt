@@ -24,14 +24,16 @@ suffice-requires c =
 pub write-written-requires : goal.write-written-requires
 write-written-requires c =
     let fit : judge_of c.args.text.now ≡ Fit = sym c.judge.ensures ∙ c.in-Fit.is in
-    let roomy : let a = c.args in Room (whole_laid a.mode a.limit a.text.now) (length a.tokens.now) (length a.strings.now) (length a.reports.now) = suffice_room _ _ _ _ _ _ (sym c.suffice.ensures ∙ c.if-suffice.true) in
+    let roomy : let a = c.args in Room (whole_laid a.mode a.limit a.text.now) (length a.tokens.now) (length a.strings.now) (length a.reports.now) =
+    suffice_room _ _ _ _ _ _ (sym c.suffice.ensures ∙ c.if-suffice.true) in
     let f = fitting _ fit in
     (f.0, roomy, well_octets _ f.1)
 
 pub returns-then-suffice : goal.returns-then-suffice
 returns-then-suffice c =
     let fit : judge_of c.args.text.now ≡ Fit = sym c.judge.ensures ∙ c.in-Fit.is in
-    let roomy : let a = c.args in Room (whole_laid a.mode a.limit a.text.now) (length a.tokens.now) (length a.strings.now) (length a.reports.now) = suffice_room _ _ _ _ _ _ (sym c.suffice.ensures ∙ c.if-suffice.true) in
+    let roomy : let a = c.args in Room (whole_laid a.mode a.limit a.text.now) (length a.tokens.now) (length a.strings.now) (length a.reports.now) =
+    suffice_room _ _ _ _ _ _ (sym c.suffice.ensures ∙ c.if-suffice.true) in
     done fit c.write-written.ensures.0 roomy c.write-written.ensures.1
 
 pub measure-counts-requires : goal.measure-counts-requires
@@ -69,12 +71,14 @@ returns-then-reports-k c =
 pub write-requires : goal.write-requires
 write-requires c =
     let fit : judge_of c.args.text.now ≡ Fit = sym c.judge.ensures ∙ c.in-Fit.is in
-    let measured : let a = c.args in Room (whole_laid a.mode a.limit a.text.now) (length a.tokens.now) (length a.strings.now) (length a.reports.now) = enough c.measure-counts.ensures c.if-tokens-n.false c.if-strings-m.false c.if-reports-k.false in
+    let measured : let a = c.args in Room (whole_laid a.mode a.limit a.text.now) (length a.tokens.now) (length a.strings.now) (length a.reports.now) =
+    enough c.measure-counts.ensures c.if-tokens-n.false c.if-strings-m.false c.if-reports-k.false in
     let f = fitting _ fit in
     (f.0, measured, well_octets _ f.1)
 
 pub returns : goal.returns
 returns c =
     let fit : judge_of c.args.text.now ≡ Fit = sym c.judge.ensures ∙ c.in-Fit.is in
-    let measured : let a = c.args in Room (whole_laid a.mode a.limit a.text.now) (length a.tokens.now) (length a.strings.now) (length a.reports.now) = enough c.measure-counts.ensures c.if-tokens-n.false c.if-strings-m.false c.if-reports-k.false in
+    let measured : let a = c.args in Room (whole_laid a.mode a.limit a.text.now) (length a.tokens.now) (length a.strings.now) (length a.reports.now) =
+    enough c.measure-counts.ensures c.if-tokens-n.false c.if-strings-m.false c.if-reports-k.false in
     done fit c.measure-counts.ensures measured c.write.ensures.1

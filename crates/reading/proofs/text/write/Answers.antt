@@ -27,7 +27,14 @@ returns-then-is_eof c = passing_end c.loop-mode.invariant c.each_token-t.ensures
     (eqb-true _ _ (sym c.is_eof.ensures ∙ c.if-is_eof.true))
 
 pub overflow_add-m : goal.overflow_add-m
-overflow_add-m c = record { fits = omega (arith, c.string_size-m.ensures, passing_few c.loop-mode.invariant c.each_token-t.ensures, c.loop-mode.invariant.walkable.short) }
+overflow_add-m c = record {
+  fits = omega (
+    arith,
+    c.string_size-m.ensures,
+    passing_few c.loop-mode.invariant c.each_token-t.ensures,
+    c.loop-mode.invariant.walkable.short,
+  );
+}
 
 pub overflow_add-k : goal.overflow_add-k
 overflow_add-k c = record { fits = omega (arith, passing_few c.loop-mode.invariant c.each_token-t.ensures, c.loop-mode.invariant.walkable.short) }

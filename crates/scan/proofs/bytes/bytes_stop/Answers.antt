@@ -12,22 +12,26 @@ loop-i-init c = (search rules, refl)
 
 pub returns-then-over : goal.returns-then-over
 returns-then-over c =
-    let here : stop_from c.args.limit c.args.s.now 2 ≡ stop_at c.args.limit c.args.s.now c.loop-i.i = sym c.loop-i.invariant.1 ∙ stop_at_lem _ _ _ c.loop-i.invariant.0 c.loop-i-test.true in
+    let here : stop_from c.args.limit c.args.s.now 2 ≡ stop_at c.args.limit c.args.s.now c.loop-i.i =
+    sym c.loop-i.invariant.1 ∙ stop_at_lem _ _ _ c.loop-i.invariant.0 c.loop-i-test.true in
     sym (here ∙ rw (lt-ltb _ _ c.if-over.true))
 
 pub returns-then-b-eq34 : goal.returns-then-b-eq34
 returns-then-b-eq34 c =
-    let here : stop_from c.args.limit c.args.s.now 2 ≡ stop_at c.args.limit c.args.s.now c.loop-i.i = sym c.loop-i.invariant.1 ∙ stop_at_lem _ _ _ c.loop-i.invariant.0 c.loop-i-test.true in
+    let here : stop_from c.args.limit c.args.s.now 2 ≡ stop_at c.args.limit c.args.s.now c.loop-i.i =
+    sym c.loop-i.invariant.1 ∙ stop_at_lem _ _ _ c.loop-i.invariant.0 c.loop-i-test.true in
     sym (here ∙ rw (le-ltb _ _ c.if-over.false, c.if-b-eq34.true))
 
 pub returns-then-b-eq10 : goal.returns-then-b-eq10
 returns-then-b-eq10 c =
-    let here : stop_from c.args.limit c.args.s.now 2 ≡ stop_at c.args.limit c.args.s.now c.loop-i.i = sym c.loop-i.invariant.1 ∙ stop_at_lem _ _ _ c.loop-i.invariant.0 c.loop-i-test.true in
+    let here : stop_from c.args.limit c.args.s.now 2 ≡ stop_at c.args.limit c.args.s.now c.loop-i.i =
+    sym c.loop-i.invariant.1 ∙ stop_at_lem _ _ _ c.loop-i.invariant.0 c.loop-i-test.true in
     sym (here ∙ rw (le-ltb _ _ c.if-over.false, ne_eqb _ _ c.if-b-eq34.false, c.if-b-eq10.true))
 
 pub loop-i-preserved : goal.loop-i-preserved
 loop-i-preserved c =
-    let here : stop_from c.args.limit c.args.s.now 2 ≡ stop_at c.args.limit c.args.s.now c.loop-i.i = sym c.loop-i.invariant.1 ∙ stop_at_lem _ _ _ c.loop-i.invariant.0 c.loop-i-test.true in
+    let here : stop_from c.args.limit c.args.s.now 2 ≡ stop_at c.args.limit c.args.s.now c.loop-i.i =
+    sym c.loop-i.invariant.1 ∙ stop_at_lem _ _ _ c.loop-i.invariant.0 c.loop-i-test.true in
     (omega arith, sym (here ∙ rw (le-ltb _ _ c.if-over.false, ne_eqb _ _ c.if-b-eq34.false, ne_eqb _ _ c.if-b-eq10.false)))
 
 pub returns : goal.returns

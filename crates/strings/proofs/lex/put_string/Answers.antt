@@ -44,7 +44,8 @@ overflow_add-p c =
     let run_end : ℕ = c.ordinary_end-e.result in
     let next : ℕ = c.loop-i.p + (run_end - c.loop-i.i) in
     let Written : List ℕ → ℕ → ℕ → Type 0 = λ out j p. let a = c.args in Writing a.mode a.s.now a.len a.out.now a.place (a.place + a.size) out j p in
-    let copied : Written c.copy-in-loop-i.new.dst run_end next = let u = c.loop-i.invariant in writing_more u (run_gives _ _ _ c.ordinary_end-e.ensures u.inside _) _ c.copy-in-loop-i.ensures in
+    let copied : Written c.copy-in-loop-i.new.dst run_end next =
+    let u = c.loop-i.invariant in writing_more u (run_gives _ _ _ c.ordinary_end-e.ensures u.inside _) _ c.copy-in-loop-i.ensures in
     omega (arith, copied.store.room, c.well_formed)
 
 pub shape_of-out-then-peek-eq34 : goal.shape_of-out-then-peek-eq34
@@ -52,7 +53,8 @@ shape_of-out-then-peek-eq34 c =
     let run_end : ℕ = c.ordinary_end-e.result in
     let next : ℕ = c.loop-i.p + (run_end - c.loop-i.i) in
     let Written : List ℕ → ℕ → ℕ → Type 0 = λ out j p. let a = c.args in Writing a.mode a.s.now a.len a.out.now a.place (a.place + a.size) out j p in
-    let copied : Written c.copy-in-loop-i.new.dst run_end next = let u = c.loop-i.invariant in writing_more u (run_gives _ _ _ c.ordinary_end-e.ensures u.inside _) _ c.copy-in-loop-i.ensures in
+    let copied : Written c.copy-in-loop-i.new.dst run_end next =
+    let u = c.loop-i.invariant in writing_more u (run_gives _ _ _ c.ordinary_end-e.ensures u.inside _) _ c.copy-in-loop-i.ensures in
     copied.store.same
 
 pub returns-then-peek-eq34 : goal.returns-then-peek-eq34
@@ -60,7 +62,8 @@ returns-then-peek-eq34 c =
     let run_end : ℕ = c.ordinary_end-e.result in
     let next : ℕ = c.loop-i.p + (run_end - c.loop-i.i) in
     let Written : List ℕ → ℕ → ℕ → Type 0 = λ out j p. let a = c.args in Writing a.mode a.s.now a.len a.out.now a.place (a.place + a.size) out j p in
-    let copied : Written c.copy-in-loop-i.new.dst run_end next = let u = c.loop-i.invariant in writing_more u (run_gives _ _ _ c.ordinary_end-e.ensures u.inside _) _ c.copy-in-loop-i.ensures in
+    let copied : Written c.copy-in-loop-i.new.dst run_end next =
+    let u = c.loop-i.invariant in writing_more u (run_gives _ _ _ c.ordinary_end-e.ensures u.inside _) _ c.copy-in-loop-i.ensures in
     writing_stop copied (quote_stop _ _ _ _ c.peek.ensures c.if-peek-eq34.true) refl
 
 pub put_simple-escapes-requires : goal.put_simple-escapes-requires
@@ -68,7 +71,8 @@ put_simple-escapes-requires c =
     let run_end : ℕ = c.ordinary_end-e.result in
     let next : ℕ = c.loop-i.p + (run_end - c.loop-i.i) in
     let Written : List ℕ → ℕ → ℕ → Type 0 = λ out j p. let a = c.args in Writing a.mode a.s.now a.len a.out.now a.place (a.place + a.size) out j p in
-    let copied : Written c.copy-in-loop-i.new.dst run_end next = let u = c.loop-i.invariant in writing_more u (run_gives _ _ _ c.ordinary_end-e.ensures u.inside _) _ c.copy-in-loop-i.ensures in
+    let copied : Written c.copy-in-loop-i.new.dst run_end next =
+    let u = c.loop-i.invariant in writing_more u (run_gives _ _ _ c.ordinary_end-e.ensures u.inside _) _ c.copy-in-loop-i.ensures in
     let w = copied in
     (w.inside, writing_room w (simple_gives _ _ _ w.inside refl _))
 
@@ -77,8 +81,10 @@ overflow_add-p-then-escapes-ne0 c =
     let run_end : ℕ = c.ordinary_end-e.result in
     let next : ℕ = c.loop-i.p + (run_end - c.loop-i.i) in
     let Written : List ℕ → ℕ → ℕ → Type 0 = λ out j p. let a = c.args in Writing a.mode a.s.now a.len a.out.now a.place (a.place + a.size) out j p in
-    let copied : Written c.copy-in-loop-i.new.dst run_end next = let u = c.loop-i.invariant in writing_more u (run_gives _ _ _ c.ordinary_end-e.ensures u.inside _) _ c.copy-in-loop-i.ensures in
-    let escaped : let n = c.put_simple-escapes.result in Written c.put_simple-escapes.new.out (run_end + 2 * n) (next + n) = let w = copied in writing_more w (simple_gives _ _ _ w.inside c.put_simple-escapes.ensures.0 _) _ c.put_simple-escapes.ensures.1 in
+    let copied : Written c.copy-in-loop-i.new.dst run_end next =
+    let u = c.loop-i.invariant in writing_more u (run_gives _ _ _ c.ordinary_end-e.ensures u.inside _) _ c.copy-in-loop-i.ensures in
+    let escaped : let n = c.put_simple-escapes.result in Written c.put_simple-escapes.new.out (run_end + 2 * n) (next + n) =
+    let w = copied in writing_more w (simple_gives _ _ _ w.inside c.put_simple-escapes.ensures.0 _) _ c.put_simple-escapes.ensures.1 in
     omega (arith, escaped.store.room, c.well_formed)
 
 pub overflow_mul-i : goal.overflow_mul-i
@@ -86,8 +92,10 @@ overflow_mul-i c =
     let run_end : ℕ = c.ordinary_end-e.result in
     let next : ℕ = c.loop-i.p + (run_end - c.loop-i.i) in
     let Written : List ℕ → ℕ → ℕ → Type 0 = λ out j p. let a = c.args in Writing a.mode a.s.now a.len a.out.now a.place (a.place + a.size) out j p in
-    let copied : Written c.copy-in-loop-i.new.dst run_end next = let u = c.loop-i.invariant in writing_more u (run_gives _ _ _ c.ordinary_end-e.ensures u.inside _) _ c.copy-in-loop-i.ensures in
-    let escaped : let n = c.put_simple-escapes.result in Written c.put_simple-escapes.new.out (run_end + 2 * n) (next + n) = let w = copied in writing_more w (simple_gives _ _ _ w.inside c.put_simple-escapes.ensures.0 _) _ c.put_simple-escapes.ensures.1 in
+    let copied : Written c.copy-in-loop-i.new.dst run_end next =
+    let u = c.loop-i.invariant in writing_more u (run_gives _ _ _ c.ordinary_end-e.ensures u.inside _) _ c.copy-in-loop-i.ensures in
+    let escaped : let n = c.put_simple-escapes.result in Written c.put_simple-escapes.new.out (run_end + 2 * n) (next + n) =
+    let w = copied in writing_more w (simple_gives _ _ _ w.inside c.put_simple-escapes.ensures.0 _) _ c.put_simple-escapes.ensures.1 in
     omega (arith, escaped.inside)
 
 pub overflow_add-i : goal.overflow_add-i
@@ -95,8 +103,10 @@ overflow_add-i c =
     let run_end : ℕ = c.ordinary_end-e.result in
     let next : ℕ = c.loop-i.p + (run_end - c.loop-i.i) in
     let Written : List ℕ → ℕ → ℕ → Type 0 = λ out j p. let a = c.args in Writing a.mode a.s.now a.len a.out.now a.place (a.place + a.size) out j p in
-    let copied : Written c.copy-in-loop-i.new.dst run_end next = let u = c.loop-i.invariant in writing_more u (run_gives _ _ _ c.ordinary_end-e.ensures u.inside _) _ c.copy-in-loop-i.ensures in
-    let escaped : let n = c.put_simple-escapes.result in Written c.put_simple-escapes.new.out (run_end + 2 * n) (next + n) = let w = copied in writing_more w (simple_gives _ _ _ w.inside c.put_simple-escapes.ensures.0 _) _ c.put_simple-escapes.ensures.1 in
+    let copied : Written c.copy-in-loop-i.new.dst run_end next =
+    let u = c.loop-i.invariant in writing_more u (run_gives _ _ _ c.ordinary_end-e.ensures u.inside _) _ c.copy-in-loop-i.ensures in
+    let escaped : let n = c.put_simple-escapes.result in Written c.put_simple-escapes.new.out (run_end + 2 * n) (next + n) =
+    let w = copied in writing_more w (simple_gives _ _ _ w.inside c.put_simple-escapes.ensures.0 _) _ c.put_simple-escapes.ensures.1 in
     omega (arith, escaped.inside)
 
 pub loop-i-smaller-then-escapes-ne0 : goal.loop-i-smaller-then-escapes-ne0
@@ -104,8 +114,10 @@ loop-i-smaller-then-escapes-ne0 c =
     let run_end : ℕ = c.ordinary_end-e.result in
     let next : ℕ = c.loop-i.p + (run_end - c.loop-i.i) in
     let Written : List ℕ → ℕ → ℕ → Type 0 = λ out j p. let a = c.args in Writing a.mode a.s.now a.len a.out.now a.place (a.place + a.size) out j p in
-    let copied : Written c.copy-in-loop-i.new.dst run_end next = let u = c.loop-i.invariant in writing_more u (run_gives _ _ _ c.ordinary_end-e.ensures u.inside _) _ c.copy-in-loop-i.ensures in
-    let escaped : let n = c.put_simple-escapes.result in Written c.put_simple-escapes.new.out (run_end + 2 * n) (next + n) = let w = copied in writing_more w (simple_gives _ _ _ w.inside c.put_simple-escapes.ensures.0 _) _ c.put_simple-escapes.ensures.1 in
+    let copied : Written c.copy-in-loop-i.new.dst run_end next =
+    let u = c.loop-i.invariant in writing_more u (run_gives _ _ _ c.ordinary_end-e.ensures u.inside _) _ c.copy-in-loop-i.ensures in
+    let escaped : let n = c.put_simple-escapes.result in Written c.put_simple-escapes.new.out (run_end + 2 * n) (next + n) =
+    let w = copied in writing_more w (simple_gives _ _ _ w.inside c.put_simple-escapes.ensures.0 _) _ c.put_simple-escapes.ensures.1 in
     omega (arith, c.if-escapes-ne0.true, escaped.inside, run_ge _ _ _ c.ordinary_end-e.ensures)
 
 pub loop-i-preserved-then-escapes-ne0 : goal.loop-i-preserved-then-escapes-ne0
@@ -113,8 +125,10 @@ loop-i-preserved-then-escapes-ne0 c =
     let run_end : ℕ = c.ordinary_end-e.result in
     let next : ℕ = c.loop-i.p + (run_end - c.loop-i.i) in
     let Written : List ℕ → ℕ → ℕ → Type 0 = λ out j p. let a = c.args in Writing a.mode a.s.now a.len a.out.now a.place (a.place + a.size) out j p in
-    let copied : Written c.copy-in-loop-i.new.dst run_end next = let u = c.loop-i.invariant in writing_more u (run_gives _ _ _ c.ordinary_end-e.ensures u.inside _) _ c.copy-in-loop-i.ensures in
-    let escaped : let n = c.put_simple-escapes.result in Written c.put_simple-escapes.new.out (run_end + 2 * n) (next + n) = let w = copied in writing_more w (simple_gives _ _ _ w.inside c.put_simple-escapes.ensures.0 _) _ c.put_simple-escapes.ensures.1 in
+    let copied : Written c.copy-in-loop-i.new.dst run_end next =
+    let u = c.loop-i.invariant in writing_more u (run_gives _ _ _ c.ordinary_end-e.ensures u.inside _) _ c.copy-in-loop-i.ensures in
+    let escaped : let n = c.put_simple-escapes.result in Written c.put_simple-escapes.new.out (run_end + 2 * n) (next + n) =
+    let w = copied in writing_more w (simple_gives _ _ _ w.inside c.put_simple-escapes.ensures.0 _) _ c.put_simple-escapes.ensures.1 in
     escaped
 
 pub step_at-st-requires : goal.step_at-st-requires
@@ -122,8 +136,10 @@ step_at-st-requires c =
     let run_end : ℕ = c.ordinary_end-e.result in
     let next : ℕ = c.loop-i.p + (run_end - c.loop-i.i) in
     let Written : List ℕ → ℕ → ℕ → Type 0 = λ out j p. let a = c.args in Writing a.mode a.s.now a.len a.out.now a.place (a.place + a.size) out j p in
-    let copied : Written c.copy-in-loop-i.new.dst run_end next = let u = c.loop-i.invariant in writing_more u (run_gives _ _ _ c.ordinary_end-e.ensures u.inside _) _ c.copy-in-loop-i.ensures in
-    let escaped : let n = c.put_simple-escapes.result in Written c.put_simple-escapes.new.out (run_end + 2 * n) (next + n) = let w = copied in writing_more w (simple_gives _ _ _ w.inside c.put_simple-escapes.ensures.0 _) _ c.put_simple-escapes.ensures.1 in
+    let copied : Written c.copy-in-loop-i.new.dst run_end next =
+    let u = c.loop-i.invariant in writing_more u (run_gives _ _ _ c.ordinary_end-e.ensures u.inside _) _ c.copy-in-loop-i.ensures in
+    let escaped : let n = c.put_simple-escapes.result in Written c.put_simple-escapes.new.out (run_end + 2 * n) (next + n) =
+    let w = copied in writing_more w (simple_gives _ _ _ w.inside c.put_simple-escapes.ensures.0 _) _ c.put_simple-escapes.ensures.1 in
     let stepping : Written c.put_simple-escapes.new.out run_end next = writing_none _ _ _ escaped c.if-escapes-ne0.false in
     stepping.inside
 
@@ -132,8 +148,10 @@ put-requires c =
     let run_end : ℕ = c.ordinary_end-e.result in
     let next : ℕ = c.loop-i.p + (run_end - c.loop-i.i) in
     let Written : List ℕ → ℕ → ℕ → Type 0 = λ out j p. let a = c.args in Writing a.mode a.s.now a.len a.out.now a.place (a.place + a.size) out j p in
-    let copied : Written c.copy-in-loop-i.new.dst run_end next = let u = c.loop-i.invariant in writing_more u (run_gives _ _ _ c.ordinary_end-e.ensures u.inside _) _ c.copy-in-loop-i.ensures in
-    let escaped : let n = c.put_simple-escapes.result in Written c.put_simple-escapes.new.out (run_end + 2 * n) (next + n) = let w = copied in writing_more w (simple_gives _ _ _ w.inside c.put_simple-escapes.ensures.0 _) _ c.put_simple-escapes.ensures.1 in
+    let copied : Written c.copy-in-loop-i.new.dst run_end next =
+    let u = c.loop-i.invariant in writing_more u (run_gives _ _ _ c.ordinary_end-e.ensures u.inside _) _ c.copy-in-loop-i.ensures in
+    let escaped : let n = c.put_simple-escapes.result in Written c.put_simple-escapes.new.out (run_end + 2 * n) (next + n) =
+    let w = copied in writing_more w (simple_gives _ _ _ w.inside c.put_simple-escapes.ensures.0 _) _ c.put_simple-escapes.ensures.1 in
     let stepping : Written c.put_simple-escapes.new.out run_end next = writing_none _ _ _ escaped c.if-escapes-ne0.false in
     let v = stepping in
     (step_four _ _ _ c.step_at-st.ensures c.in-Go.is, writing_room v (step_gives _ _ _ c.step_at-st.ensures c.in-Go.is v.inside))
@@ -143,10 +161,13 @@ overflow_add-p-in-Go c =
     let run_end : ℕ = c.ordinary_end-e.result in
     let next : ℕ = c.loop-i.p + (run_end - c.loop-i.i) in
     let Written : List ℕ → ℕ → ℕ → Type 0 = λ out j p. let a = c.args in Writing a.mode a.s.now a.len a.out.now a.place (a.place + a.size) out j p in
-    let copied : Written c.copy-in-loop-i.new.dst run_end next = let u = c.loop-i.invariant in writing_more u (run_gives _ _ _ c.ordinary_end-e.ensures u.inside _) _ c.copy-in-loop-i.ensures in
-    let escaped : let n = c.put_simple-escapes.result in Written c.put_simple-escapes.new.out (run_end + 2 * n) (next + n) = let w = copied in writing_more w (simple_gives _ _ _ w.inside c.put_simple-escapes.ensures.0 _) _ c.put_simple-escapes.ensures.1 in
+    let copied : Written c.copy-in-loop-i.new.dst run_end next =
+    let u = c.loop-i.invariant in writing_more u (run_gives _ _ _ c.ordinary_end-e.ensures u.inside _) _ c.copy-in-loop-i.ensures in
+    let escaped : let n = c.put_simple-escapes.result in Written c.put_simple-escapes.new.out (run_end + 2 * n) (next + n) =
+    let w = copied in writing_more w (simple_gives _ _ _ w.inside c.put_simple-escapes.ensures.0 _) _ c.put_simple-escapes.ensures.1 in
     let stepping : Written c.put_simple-escapes.new.out run_end next = writing_none _ _ _ escaped c.if-escapes-ne0.false in
-    let stepped : Written c.put.new.out (run_end + c.in-Go.used) (next + c.in-Go.n) = let v = stepping in writing_more v (step_gives _ _ _ c.step_at-st.ensures c.in-Go.is v.inside) _ c.put.ensures in
+    let stepped : Written c.put.new.out (run_end + c.in-Go.used) (next + c.in-Go.n) =
+    let v = stepping in writing_more v (step_gives _ _ _ c.step_at-st.ensures c.in-Go.is v.inside) _ c.put.ensures in
     omega (arith, stepped.store.room, c.well_formed)
 
 pub overflow_add-i-in-Go : goal.overflow_add-i-in-Go
@@ -154,10 +175,13 @@ overflow_add-i-in-Go c =
     let run_end : ℕ = c.ordinary_end-e.result in
     let next : ℕ = c.loop-i.p + (run_end - c.loop-i.i) in
     let Written : List ℕ → ℕ → ℕ → Type 0 = λ out j p. let a = c.args in Writing a.mode a.s.now a.len a.out.now a.place (a.place + a.size) out j p in
-    let copied : Written c.copy-in-loop-i.new.dst run_end next = let u = c.loop-i.invariant in writing_more u (run_gives _ _ _ c.ordinary_end-e.ensures u.inside _) _ c.copy-in-loop-i.ensures in
-    let escaped : let n = c.put_simple-escapes.result in Written c.put_simple-escapes.new.out (run_end + 2 * n) (next + n) = let w = copied in writing_more w (simple_gives _ _ _ w.inside c.put_simple-escapes.ensures.0 _) _ c.put_simple-escapes.ensures.1 in
+    let copied : Written c.copy-in-loop-i.new.dst run_end next =
+    let u = c.loop-i.invariant in writing_more u (run_gives _ _ _ c.ordinary_end-e.ensures u.inside _) _ c.copy-in-loop-i.ensures in
+    let escaped : let n = c.put_simple-escapes.result in Written c.put_simple-escapes.new.out (run_end + 2 * n) (next + n) =
+    let w = copied in writing_more w (simple_gives _ _ _ w.inside c.put_simple-escapes.ensures.0 _) _ c.put_simple-escapes.ensures.1 in
     let stepping : Written c.put_simple-escapes.new.out run_end next = writing_none _ _ _ escaped c.if-escapes-ne0.false in
-    let stepped : Written c.put.new.out (run_end + c.in-Go.used) (next + c.in-Go.n) = let v = stepping in writing_more v (step_gives _ _ _ c.step_at-st.ensures c.in-Go.is v.inside) _ c.put.ensures in
+    let stepped : Written c.put.new.out (run_end + c.in-Go.used) (next + c.in-Go.n) =
+    let v = stepping in writing_more v (step_gives _ _ _ c.step_at-st.ensures c.in-Go.is v.inside) _ c.put.ensures in
     omega (arith, stepped.inside, c.well_formed)
 
 pub loop-i-smaller : goal.loop-i-smaller
@@ -165,8 +189,10 @@ loop-i-smaller c =
     let run_end : ℕ = c.ordinary_end-e.result in
     let next : ℕ = c.loop-i.p + (run_end - c.loop-i.i) in
     let Written : List ℕ → ℕ → ℕ → Type 0 = λ out j p. let a = c.args in Writing a.mode a.s.now a.len a.out.now a.place (a.place + a.size) out j p in
-    let copied : Written c.copy-in-loop-i.new.dst run_end next = let u = c.loop-i.invariant in writing_more u (run_gives _ _ _ c.ordinary_end-e.ensures u.inside _) _ c.copy-in-loop-i.ensures in
-    let escaped : let n = c.put_simple-escapes.result in Written c.put_simple-escapes.new.out (run_end + 2 * n) (next + n) = let w = copied in writing_more w (simple_gives _ _ _ w.inside c.put_simple-escapes.ensures.0 _) _ c.put_simple-escapes.ensures.1 in
+    let copied : Written c.copy-in-loop-i.new.dst run_end next =
+    let u = c.loop-i.invariant in writing_more u (run_gives _ _ _ c.ordinary_end-e.ensures u.inside _) _ c.copy-in-loop-i.ensures in
+    let escaped : let n = c.put_simple-escapes.result in Written c.put_simple-escapes.new.out (run_end + 2 * n) (next + n) =
+    let w = copied in writing_more w (simple_gives _ _ _ w.inside c.put_simple-escapes.ensures.0 _) _ c.put_simple-escapes.ensures.1 in
     let stepping : Written c.put_simple-escapes.new.out run_end next = writing_none _ _ _ escaped c.if-escapes-ne0.false in
     step_less _ _ _ c.step_at-st.ensures c.in-Go.is stepping.inside _
     (run_ge _ _ _ c.ordinary_end-e.ensures)
@@ -176,10 +202,13 @@ loop-i-preserved c =
     let run_end : ℕ = c.ordinary_end-e.result in
     let next : ℕ = c.loop-i.p + (run_end - c.loop-i.i) in
     let Written : List ℕ → ℕ → ℕ → Type 0 = λ out j p. let a = c.args in Writing a.mode a.s.now a.len a.out.now a.place (a.place + a.size) out j p in
-    let copied : Written c.copy-in-loop-i.new.dst run_end next = let u = c.loop-i.invariant in writing_more u (run_gives _ _ _ c.ordinary_end-e.ensures u.inside _) _ c.copy-in-loop-i.ensures in
-    let escaped : let n = c.put_simple-escapes.result in Written c.put_simple-escapes.new.out (run_end + 2 * n) (next + n) = let w = copied in writing_more w (simple_gives _ _ _ w.inside c.put_simple-escapes.ensures.0 _) _ c.put_simple-escapes.ensures.1 in
+    let copied : Written c.copy-in-loop-i.new.dst run_end next =
+    let u = c.loop-i.invariant in writing_more u (run_gives _ _ _ c.ordinary_end-e.ensures u.inside _) _ c.copy-in-loop-i.ensures in
+    let escaped : let n = c.put_simple-escapes.result in Written c.put_simple-escapes.new.out (run_end + 2 * n) (next + n) =
+    let w = copied in writing_more w (simple_gives _ _ _ w.inside c.put_simple-escapes.ensures.0 _) _ c.put_simple-escapes.ensures.1 in
     let stepping : Written c.put_simple-escapes.new.out run_end next = writing_none _ _ _ escaped c.if-escapes-ne0.false in
-    let stepped : Written c.put.new.out (run_end + c.in-Go.used) (next + c.in-Go.n) = let v = stepping in writing_more v (step_gives _ _ _ c.step_at-st.ensures c.in-Go.is v.inside) _ c.put.ensures in
+    let stepped : Written c.put.new.out (run_end + c.in-Go.used) (next + c.in-Go.n) =
+    let v = stepping in writing_more v (step_gives _ _ _ c.step_at-st.ensures c.in-Go.is v.inside) _ c.put.ensures in
     stepped
 
 pub shape_of-out-in-Stop : goal.shape_of-out-in-Stop
@@ -187,8 +216,10 @@ shape_of-out-in-Stop c =
     let run_end : ℕ = c.ordinary_end-e.result in
     let next : ℕ = c.loop-i.p + (run_end - c.loop-i.i) in
     let Written : List ℕ → ℕ → ℕ → Type 0 = λ out j p. let a = c.args in Writing a.mode a.s.now a.len a.out.now a.place (a.place + a.size) out j p in
-    let copied : Written c.copy-in-loop-i.new.dst run_end next = let u = c.loop-i.invariant in writing_more u (run_gives _ _ _ c.ordinary_end-e.ensures u.inside _) _ c.copy-in-loop-i.ensures in
-    let escaped : let n = c.put_simple-escapes.result in Written c.put_simple-escapes.new.out (run_end + 2 * n) (next + n) = let w = copied in writing_more w (simple_gives _ _ _ w.inside c.put_simple-escapes.ensures.0 _) _ c.put_simple-escapes.ensures.1 in
+    let copied : Written c.copy-in-loop-i.new.dst run_end next =
+    let u = c.loop-i.invariant in writing_more u (run_gives _ _ _ c.ordinary_end-e.ensures u.inside _) _ c.copy-in-loop-i.ensures in
+    let escaped : let n = c.put_simple-escapes.result in Written c.put_simple-escapes.new.out (run_end + 2 * n) (next + n) =
+    let w = copied in writing_more w (simple_gives _ _ _ w.inside c.put_simple-escapes.ensures.0 _) _ c.put_simple-escapes.ensures.1 in
     let stepping : Written c.put_simple-escapes.new.out run_end next = writing_none _ _ _ escaped c.if-escapes-ne0.false in
     stepping.store.same
 
@@ -197,7 +228,9 @@ returns-in-Stop c =
     let run_end : ℕ = c.ordinary_end-e.result in
     let next : ℕ = c.loop-i.p + (run_end - c.loop-i.i) in
     let Written : List ℕ → ℕ → ℕ → Type 0 = λ out j p. let a = c.args in Writing a.mode a.s.now a.len a.out.now a.place (a.place + a.size) out j p in
-    let copied : Written c.copy-in-loop-i.new.dst run_end next = let u = c.loop-i.invariant in writing_more u (run_gives _ _ _ c.ordinary_end-e.ensures u.inside _) _ c.copy-in-loop-i.ensures in
-    let escaped : let n = c.put_simple-escapes.result in Written c.put_simple-escapes.new.out (run_end + 2 * n) (next + n) = let w = copied in writing_more w (simple_gives _ _ _ w.inside c.put_simple-escapes.ensures.0 _) _ c.put_simple-escapes.ensures.1 in
+    let copied : Written c.copy-in-loop-i.new.dst run_end next =
+    let u = c.loop-i.invariant in writing_more u (run_gives _ _ _ c.ordinary_end-e.ensures u.inside _) _ c.copy-in-loop-i.ensures in
+    let escaped : let n = c.put_simple-escapes.result in Written c.put_simple-escapes.new.out (run_end + 2 * n) (next + n) =
+    let w = copied in writing_more w (simple_gives _ _ _ w.inside c.put_simple-escapes.ensures.0 _) _ c.put_simple-escapes.ensures.1 in
     let stepping : Written c.put_simple-escapes.new.out run_end next = writing_none _ _ _ escaped c.if-escapes-ne0.false in
     search (writing_stop stepping)

@@ -13,7 +13,9 @@ loop-mode-init c = search measuring_first
 
 pub overflow_add-count : goal.overflow_add-count
 overflow_add-count c =
-    let parted : let a = c.args in let r = c.part_at-part.result in Measuring a.mode a.s.now r.end (c.loop-mode.count + r.count) c.loop-mode.reports c.loop-mode.state = measuring_part c.loop-mode.invariant c.part_at-part.ensures in
+    let parted : let a = c.args in let r = c.part_at-part.result in Measuring a.mode a.s.now r.end (c.loop-mode.count + r.count) c.loop-mode.reports
+    c.loop-mode.state =
+    measuring_part c.loop-mode.invariant c.part_at-part.ensures in
     let v = parted in omega (arith, v.few_bytes, v.inside, c.well_formed)
 
 -- ---- the needs
@@ -22,12 +24,16 @@ overflow_add-stop c = omega (arith, quote_in c.args.s.now c.part_at-part.result.
 
 pub returns-then-peek-eq34 : goal.returns-then-peek-eq34
 returns-then-peek-eq34 c =
-    let parted : let a = c.args in let r = c.part_at-part.result in Measuring a.mode a.s.now r.end (c.loop-mode.count + r.count) c.loop-mode.reports c.loop-mode.state = measuring_part c.loop-mode.invariant c.part_at-part.ensures in
+    let parted : let a = c.args in let r = c.part_at-part.result in Measuring a.mode a.s.now r.end (c.loop-mode.count + r.count) c.loop-mode.reports
+    c.loop-mode.state =
+    measuring_part c.loop-mode.invariant c.part_at-part.ensures in
     measuring_stop parted (quote_stop _ _ _ _ c.peek.ensures c.if-peek-eq34.true) refl
 
 pub step_at-st-requires : goal.step_at-st-requires
 step_at-st-requires c =
-    let parted : let a = c.args in let r = c.part_at-part.result in Measuring a.mode a.s.now r.end (c.loop-mode.count + r.count) c.loop-mode.reports c.loop-mode.state = measuring_part c.loop-mode.invariant c.part_at-part.ensures in
+    let parted : let a = c.args in let r = c.part_at-part.result in Measuring a.mode a.s.now r.end (c.loop-mode.count + r.count) c.loop-mode.reports
+    c.loop-mode.state =
+    measuring_part c.loop-mode.invariant c.part_at-part.ensures in
     parted.inside
 
 pub feed-state-requires : goal.feed-state-requires
@@ -35,34 +41,50 @@ feed-state-requires c = search step_four
 
 pub overflow_add-count-in-Go : goal.overflow_add-count-in-Go
 overflow_add-count-in-Go c =
-    let parted : let a = c.args in let r = c.part_at-part.result in Measuring a.mode a.s.now r.end (c.loop-mode.count + r.count) c.loop-mode.reports c.loop-mode.state = measuring_part c.loop-mode.invariant c.part_at-part.ensures in
+    let parted : let a = c.args in let r = c.part_at-part.result in Measuring a.mode a.s.now r.end (c.loop-mode.count + r.count) c.loop-mode.reports
+    c.loop-mode.state =
+    measuring_part c.loop-mode.invariant c.part_at-part.ensures in
     omega (arith, count_in parted c.step_at-st.ensures c.in-Go.is, c.well_formed)
 
 pub overflow_add-reports : goal.overflow_add-reports
 overflow_add-reports c =
-    let parted : let a = c.args in let r = c.part_at-part.result in Measuring a.mode a.s.now r.end (c.loop-mode.count + r.count) c.loop-mode.reports c.loop-mode.state = measuring_part c.loop-mode.invariant c.part_at-part.ensures in
-    let stepped : let a = c.args in let r = c.part_at-part.result in Measuring a.mode a.s.now (r.end + c.in-Go.used) (c.loop-mode.count + r.count + c.in-Go.n) (c.loop-mode.reports + c.report_count-reports.result) c.feed-state.result = measuring_go parted c.step_at-st.ensures c.in-Go.is _ _ c.feed-state.ensures c.report_count-reports.ensures in
+    let parted : let a = c.args in let r = c.part_at-part.result in Measuring a.mode a.s.now r.end (c.loop-mode.count + r.count) c.loop-mode.reports
+    c.loop-mode.state =
+    measuring_part c.loop-mode.invariant c.part_at-part.ensures in
+    let stepped : let a = c.args in let r = c.part_at-part.result in Measuring a.mode a.s.now (r.end + c.in-Go.used)
+    (c.loop-mode.count + r.count + c.in-Go.n) (c.loop-mode.reports + c.report_count-reports.result) c.feed-state.result =
+    measuring_go parted c.step_at-st.ensures c.in-Go.is _ _ c.feed-state.ensures c.report_count-reports.ensures in
     let v = stepped in omega (arith, v.few_reports, v.inside, c.well_formed)
 
 pub overflow_add-i : goal.overflow_add-i
 overflow_add-i c =
-    let parted : let a = c.args in let r = c.part_at-part.result in Measuring a.mode a.s.now r.end (c.loop-mode.count + r.count) c.loop-mode.reports c.loop-mode.state = measuring_part c.loop-mode.invariant c.part_at-part.ensures in
-    let stepped : let a = c.args in let r = c.part_at-part.result in Measuring a.mode a.s.now (r.end + c.in-Go.used) (c.loop-mode.count + r.count + c.in-Go.n) (c.loop-mode.reports + c.report_count-reports.result) c.feed-state.result = measuring_go parted c.step_at-st.ensures c.in-Go.is _ _ c.feed-state.ensures c.report_count-reports.ensures in
+    let parted : let a = c.args in let r = c.part_at-part.result in Measuring a.mode a.s.now r.end (c.loop-mode.count + r.count) c.loop-mode.reports
+    c.loop-mode.state =
+    measuring_part c.loop-mode.invariant c.part_at-part.ensures in
+    let stepped : let a = c.args in let r = c.part_at-part.result in Measuring a.mode a.s.now (r.end + c.in-Go.used)
+    (c.loop-mode.count + r.count + c.in-Go.n) (c.loop-mode.reports + c.report_count-reports.result) c.feed-state.result =
+    measuring_go parted c.step_at-st.ensures c.in-Go.is _ _ c.feed-state.ensures c.report_count-reports.ensures in
     omega (arith, stepped.inside, c.well_formed)
 
 pub loop-mode-smaller : goal.loop-mode-smaller
 loop-mode-smaller c =
-    let parted : let a = c.args in let r = c.part_at-part.result in Measuring a.mode a.s.now r.end (c.loop-mode.count + r.count) c.loop-mode.reports c.loop-mode.state = measuring_part c.loop-mode.invariant c.part_at-part.ensures in
+    let parted : let a = c.args in let r = c.part_at-part.result in Measuring a.mode a.s.now r.end (c.loop-mode.count + r.count) c.loop-mode.reports
+    c.loop-mode.state =
+    measuring_part c.loop-mode.invariant c.part_at-part.ensures in
     step_less _ _ _ c.step_at-st.ensures c.in-Go.is parted.inside _ (spells_ge c.part_at-part.ensures.0)
 
 -- after a step that goes on
 pub loop-mode-preserved : goal.loop-mode-preserved
 loop-mode-preserved c =
-    let parted : let a = c.args in let r = c.part_at-part.result in Measuring a.mode a.s.now r.end (c.loop-mode.count + r.count) c.loop-mode.reports c.loop-mode.state = measuring_part c.loop-mode.invariant c.part_at-part.ensures in
+    let parted : let a = c.args in let r = c.part_at-part.result in Measuring a.mode a.s.now r.end (c.loop-mode.count + r.count) c.loop-mode.reports
+    c.loop-mode.state =
+    measuring_part c.loop-mode.invariant c.part_at-part.ensures in
     measuring_go parted c.step_at-st.ensures c.in-Go.is _ _ c.feed-state.ensures
     c.report_count-reports.ensures
 
 pub returns-in-Stop : goal.returns-in-Stop
 returns-in-Stop c =
-    let parted : let a = c.args in let r = c.part_at-part.result in Measuring a.mode a.s.now r.end (c.loop-mode.count + r.count) c.loop-mode.reports c.loop-mode.state = measuring_part c.loop-mode.invariant c.part_at-part.ensures in
+    let parted : let a = c.args in let r = c.part_at-part.result in Measuring a.mode a.s.now r.end (c.loop-mode.count + r.count) c.loop-mode.reports
+    c.loop-mode.state =
+    measuring_part c.loop-mode.invariant c.part_at-part.ensures in
     search (measuring_stop parted)

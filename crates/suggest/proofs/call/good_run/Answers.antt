@@ -16,11 +16,15 @@ returns-then-run c = let n = length c.args.run.now in
 pub returns-in-WellFormed : goal.returns-in-WellFormed
 unfolding good_run
 returns-in-WellFormed c =
-    let good_length : let n = length c.args.run.now in not (eqb n 0) && leb n longest_run ≡ true = let n = length c.args.run.now in let l = ltb-false longest_run n (or_right (eqb n 0) (ltb longest_run n) c.if-run.false) in rw (or_left (eqb n 0) (ltb longest_run n) c.if-run.false, le-leb n longest_run l) in
+    let good_length : let n = length c.args.run.now in not (eqb n 0) && leb n longest_run ≡ true =
+    let n = length c.args.run.now in let l = ltb-false longest_run n (or_right (eqb n 0) (ltb longest_run n) c.if-run.false) in rw
+    (or_left (eqb n 0) (ltb longest_run n) c.if-run.false, le-leb n longest_run l) in
     rw (good_length, ← c.check.ensures.same, c.in-WellFormed.is)
 
 pub returns-in-IllFormed : goal.returns-in-IllFormed
 unfolding good_run
 returns-in-IllFormed c =
-    let good_length : let n = length c.args.run.now in not (eqb n 0) && leb n longest_run ≡ true = let n = length c.args.run.now in let l = ltb-false longest_run n (or_right (eqb n 0) (ltb longest_run n) c.if-run.false) in rw (or_left (eqb n 0) (ltb longest_run n) c.if-run.false, le-leb n longest_run l) in
+    let good_length : let n = length c.args.run.now in not (eqb n 0) && leb n longest_run ≡ true =
+    let n = length c.args.run.now in let l = ltb-false longest_run n (or_right (eqb n 0) (ltb longest_run n) c.if-run.false) in rw
+    (or_left (eqb n 0) (ltb longest_run n) c.if-run.false, le-leb n longest_run l) in
     rw (good_length, ← c.check.ensures.same, c.in-IllFormed.is)

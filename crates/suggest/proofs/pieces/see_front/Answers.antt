@@ -20,12 +20,14 @@ slice_bounds-see-start c = c.requires.inside
 
 pub join-requires : goal.join-requires
 join-requires c =
-    let cut : let a = c.args in HeadSeen a.text.now a.start a.head = c.requires.before (pos_of_ne-zero (eqb-false _ _ (or_left (eqb c.args.start 0) c.is_minus_zero.result c.if-start-is_minus_zero.false))) in
+    let cut : let a = c.args in HeadSeen a.text.now a.start a.head =
+    c.requires.before (pos_of_ne-zero (eqb-false _ _ (or_left (eqb c.args.start 0) c.is_minus_zero.result c.if-start-is_minus_zero.false))) in
     rw (rw rest_is at c.see-2.ensures) (seam_no_sign cut.seam)
 
 pub returns : goal.returns
 returns c =
-    let cut : let a = c.args in HeadSeen a.text.now a.start a.head = c.requires.before (pos_of_ne-zero (eqb-false _ _ (or_left (eqb c.args.start 0) c.is_minus_zero.result c.if-start-is_minus_zero.false))) in
+    let cut : let a = c.args in HeadSeen a.text.now a.start a.head =
+    c.requires.before (pos_of_ne-zero (eqb-false _ _ (or_left (eqb c.args.start 0) c.is_minus_zero.result c.if-start-is_minus_zero.false))) in
     let h = cut in
     let w = or_right (eqb c.args.start 0) c.is_minus_zero.result c.if-start-is_minus_zero.false in
     c.join.ensures ∙ rw (c.is_minus-neg.ensures, rw rest_is at c.see-2.ensures, h.known)

@@ -8,7 +8,8 @@ use Rattle.token_file.proofs.Numbers.{putting}
 use Rattle.token_file.proofs.number.put_little.Given as goal
 
 abbrev pub invariant-loop-k : goal.invariant-loop-k
-invariant-loop-k l = (l.k ≤ l.width) × (length l.out ≡ length l.initial.out) × (putting l.out l.at l.width l.k l.rest ≡ sets l.initial.out l.at (little l.width l.n))
+invariant-loop-k l = (l.k ≤ l.width) × (length l.out ≡ length l.initial.out) ×
+    (putting l.out l.at l.width l.k l.rest ≡ sets l.initial.out l.at (little l.width l.n))
 
 abbrev pub decreases-loop-k : goal.decreases-loop-k
 decreases-loop-k l = l.width - l.k

@@ -40,7 +40,8 @@ returns-then-not-rows_ok c =
 pub returns-then-tokens-count : goal.returns-then-tokens-count
 returns-then-tokens-count c =
     let right : framed c.version1-y.result c.args.file.now ≡ true = sym c.is_framed.ensures ∙ c.if-not-is_framed.false in
-    let ruled : rows_ok reason_ok 0 (bytes_rows c.version1-y.result c.count_of-count.result (drop header_width c.args.file.now)) ≡ true = sym c.rows_ok.ensures ∙ c.if-not-rows_ok.false in
+    let ruled : rows_ok reason_ok 0 (bytes_rows c.version1-y.result c.count_of-count.result (drop header_width c.args.file.now)) ≡ true =
+    sym c.rows_ok.ensures ∙ c.if-not-rows_ok.false in
     read_no_room c.version1-y.ensures right c.count_of-count.ensures.0 ruled c.if-tokens-count.true
 
 pub store_rows-requires : goal.store_rows-requires
@@ -57,6 +58,7 @@ shape_of-tokens c = c.store_rows.auto.tokens
 pub returns : goal.returns
 returns c =
     let right : framed c.version1-y.result c.args.file.now ≡ true = sym c.is_framed.ensures ∙ c.if-not-is_framed.false in
-    let ruled : rows_ok reason_ok 0 (bytes_rows c.version1-y.result c.count_of-count.result (drop header_width c.args.file.now)) ≡ true = sym c.rows_ok.ensures ∙ c.if-not-rows_ok.false in
+    let ruled : rows_ok reason_ok 0 (bytes_rows c.version1-y.result c.count_of-count.result (drop header_width c.args.file.now)) ≡ true =
+    sym c.rows_ok.ensures ∙ c.if-not-rows_ok.false in
     read_all c.version1-y.ensures right c.count_of-count.ensures.0 ruled c.if-tokens-count.false
     c.store_rows.ensures

@@ -10,7 +10,13 @@ pub put_row-requires : goal.put_row-requires
 put_row-requires c = search put_rows_room
 
 pub overflow_add-to : goal.overflow_add-to
-overflow_add-to c = omega (arith, put_rows_room c.loop-left.invariant c.loop-left-test.true, c.row_width-width.ensures, c.loop-left.invariant.size, c.well_formed)
+overflow_add-to c = omega (
+  arith,
+  put_rows_room c.loop-left.invariant c.loop-left-test.true,
+  c.row_width-width.ensures,
+  c.loop-left.invariant.size,
+  c.well_formed,
+)
 
 pub loop-left-preserved : goal.loop-left-preserved
 loop-left-preserved c = search put_rows_turn

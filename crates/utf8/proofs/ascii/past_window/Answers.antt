@@ -12,10 +12,12 @@ returns-then-text-at-lt-WINDOW c = search ahead_first
 
 pub overflow_add-result : goal.overflow_add-result
 overflow_add-result c =
-    let counted : let a = c.args in Ahead in_ascii a.text.now a.at (a.at + c.ascii_count.result) = ahead_window is_ascii _ _ _ _ (ahead_first in_ascii _ _ c.requires) c.if-text-at-lt-WINDOW.false _ c.ascii_count.ensures in
+    let counted : let a = c.args in Ahead in_ascii a.text.now a.at (a.at + c.ascii_count.result) =
+    ahead_window is_ascii _ _ _ _ (ahead_first in_ascii _ _ c.requires) c.if-text-at-lt-WINDOW.false _ c.ascii_count.ensures in
     omega (arith, counted.inside)
 
 pub returns : goal.returns
 returns c =
-    let counted : let a = c.args in Ahead in_ascii a.text.now a.at (a.at + c.ascii_count.result) = ahead_window is_ascii _ _ _ _ (ahead_first in_ascii _ _ c.requires) c.if-text-at-lt-WINDOW.false _ c.ascii_count.ensures in
+    let counted : let a = c.args in Ahead in_ascii a.text.now a.at (a.at + c.ascii_count.result) =
+    ahead_window is_ascii _ _ _ _ (ahead_first in_ascii _ _ c.requires) c.if-text-at-lt-WINDOW.false _ c.ascii_count.ensures in
     counted

@@ -36,8 +36,8 @@ impl Fraction {
 
     // The nanoseconds of the fraction of a unit.
     pub(crate) fn nanos(self, unit: u64) -> u64
-        requires fact_1 { ReadOf self }
-        requires fact_2 { UnitNanos unit }
+        requires was_read { ReadOf self }
+        requires is_unit { UnitNanos unit }
         ensures { result ≡ frac_of (acc_of self) unit }
     {
         let f = self.f;
@@ -51,9 +51,9 @@ impl Fraction {
 // The nanoseconds of f / 10^k of a unit, `scale` being 1.0 multiplied k times by 10.0: the quotient
 // first, each step rounded once, and the result truncated.
 fn nanos_of(f: u64, k: usize, scale: f64, unit: u64) -> u64
-    requires fact_1 { Proper f k }
-    requires fact_2 { scale ≡ scale_of k }
-    requires fact_3 { UnitNanos unit }
+    requires is_proper { Proper f k }
+    requires is_scale { scale ≡ scale_of k }
+    requires is_unit { UnitNanos unit }
     ensures { result ≡ nanos_of f k unit }
 {
     let size = std::num::nearest_u64_to_f64(unit);

@@ -143,8 +143,8 @@ pub fn unit_of(u: &[u8]) -> u64
 
 // The part whose number is `value` and whose fraction is `digits`, for a unit that ends at `end`.
 fn nanos_part(value: u64, digits: Fraction, unit: u64, end: usize) -> Part
-    requires fact_1 { ReadOf digits }
-    requires fact_2 { unit ≤ 3600000000000 }
+    requires was_read { ReadOf digits }
+    requires at_most_an_hour { unit ≤ 3600000000000 }
     ensures { result ≡ nanos_part value (acc_of digits) unit end }
 {
     if unit == 0 {
@@ -164,8 +164,8 @@ fn nanos_part(value: u64, digits: Fraction, unit: u64, end: usize) -> Part
 
 // The same, with the unit that stands at `at`.
 fn unit_part(s: &[u8], value: u64, digits: Fraction, at: usize) -> Part
-    requires fact_1 { ReadOf digits }
-    requires fact_2 { at ≤ length s.now }
+    requires was_read { ReadOf digits }
+    requires inside { at ≤ length s.now }
     ensures { result ≡ unit_part value (acc_of digits) at s.now }
 {
     let rest = &s[at..];

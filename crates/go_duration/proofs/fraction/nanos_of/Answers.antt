@@ -5,7 +5,7 @@ use Rattle.go_duration.proofs.fraction.nanos_of.Goals as goal
 pub truncating_f64_to_u64-requires : goal.truncating_f64_to_u64-requires
 truncating_f64_to_u64-requires c = let a = c.args in
     let p = c.requires in
-    let r = product_range a.f a.k a.unit _ _ _ c.nearest_u64_to_f64.ensures c.nearest_u64_to_f64-size.ensures p.fact_2 p.fact_1 p.fact_3 in
+    let r = product_range a.f a.k a.unit _ _ _ c.nearest_u64_to_f64.ensures c.nearest_u64_to_f64-size.ensures p.is_scale p.is_proper p.is_unit in
     record { lower_bound = r.0; upper_bound = r.1 }
 
 pub returns : goal.returns

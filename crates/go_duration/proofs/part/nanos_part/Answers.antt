@@ -8,14 +8,14 @@ use Rattle.go_duration.proofs.part.nanos_part.Goals as goal
 use Rattle.go_duration.proofs.part.nanos_part.Goals.{Else-unit-eq0, Joined-value-gt-SMALL, then-value-gt-SMALL+else-value-unit, else-value-gt-SMALL}
 
 unit_known : (c : Else-unit-eq0) → UnitNanos c.args.unit
-unit_known c = record { some = pos_of_ne-zero c.if-unit-eq0.false; top = c.requires.fact_2 }
+unit_known c = record { some = pos_of_ne-zero c.if-unit-eq0.false; top = c.requires.at_most_an_hour }
 
 -- past the tests of the number, the product is at most 2^63
 product_fits : (c : Joined-value-gt-SMALL) → c.args.value * c.args.unit ≤ most
 product_fits c =
     elim c.if-value-gt-SMALL.branch [
       | then-value-gt-SMALL+else-value-unit w ↦ product_le _ _ (pos_of_ne-zero c.if-unit-eq0.false) w.if-value-unit.false
-      | else-value-gt-SMALL w ↦ small_le _ _ w.if-value-gt-SMALL.false c.requires.fact_2
+      | else-value-gt-SMALL w ↦ small_le _ _ w.if-value-gt-SMALL.false c.requires.at_most_an_hour
     ]
 
 pub returns-then-unit-eq0 : goal.returns-then-unit-eq0
@@ -29,7 +29,7 @@ overflow_add-nanos c =
     let a = c.args in
     let p = goal.at.overflow_add-nanos c in
     let e = c.nanos.ensures in
-    omega (arith, product_fits p.Joined-value-gt-SMALL, digits_le a.digits a.unit c.requires.fact_1 (unit_known p.Else-unit-eq0))
+    omega (arith, product_fits p.Joined-value-gt-SMALL, digits_le a.digits a.unit c.requires.was_read (unit_known p.Else-unit-eq0))
 
 pub returns-then-nanos-gt-MOST : goal.returns-then-nanos-gt-MOST
 returns-then-nanos-gt-MOST c = let p = product_fits (goal.at.returns-then-nanos-gt-MOST c).Joined-value-gt-SMALL in search sum_over

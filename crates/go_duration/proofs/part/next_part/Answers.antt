@@ -14,7 +14,7 @@ returns-then-used-digits c =
 pub unit_part-requires : goal.unit_part-requires
 unit_part-requires c =
     let told : Told c.args.s.now c.in-Number.value c.in-Number.used = number_told _ _ c.leading_int-whole.ensures _ _ c.in-Number.is in
-    record { fact_1 = next_read _ _ _ told _ c.fraction_at-after.ensures; fact_2 = next_in _ _ _ told _ c.fraction_at-after.ensures }
+    record { was_read = next_read _ _ _ told _ c.fraction_at-after.ensures; inside = next_in _ _ _ told _ c.fraction_at-after.ensures }
 
 pub returns : goal.returns
 returns c =

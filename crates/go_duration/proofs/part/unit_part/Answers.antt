@@ -23,7 +23,7 @@ overflow_add-at c =
     omega (arith, size_le, length-drop a.at a.s.now)
 
 pub nanos_part-requires : goal.nanos_part-requires
-nanos_part-requires c = record { fact_1 = c.requires.fact_1; fact_2 = rw c.unit_of-unit.ensures (unit_le _) }
+nanos_part-requires c = record { was_read = c.requires.was_read; at_most_an_hour = rw c.unit_of-unit.ensures (unit_le _) }
 
 pub returns : goal.returns
 unfolding unit_part

@@ -7,11 +7,11 @@ use Rattle.go_duration.proofs.fraction.Fraction.nanos.Goals as goal
 
 pub nanos_of-requires : goal.nanos_of-requires
 nanos_of-requires c = let s = c.args.self in
-    let r = c.requires.fact_1 in
+    let r = c.requires.was_read in
     record {
-      fact_1 = proper_read r.text s.f s.kept s.count s.over (acc_is s _ r.same) c.if-f-gt0.true;
-      fact_2 = rw r.same (scaled (read_digits r.text no_digits));
-      fact_3 = c.requires.fact_2;
+      is_proper = proper_read r.text s.f s.kept s.count s.over (acc_is s _ r.same) c.if-f-gt0.true;
+      is_scale = rw r.same (scaled (read_digits r.text no_digits));
+      is_unit = c.requires.is_unit;
     }
 
 pub returns-then-f-gt0 : goal.returns-then-f-gt0

@@ -1,4 +1,4 @@
-/* The PXF token reader: the C interface of libpxf.a, which `rt staticlib pxf` makes.
+/* The PXF token reader: the C interface of libpxf.a, which `./build pxf` makes.
  *
  *     cc -I include program.c target/staticlib/libpxf.a -o program
  *

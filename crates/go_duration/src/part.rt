@@ -46,7 +46,7 @@ fn whole_of(value: u64, used: usize) -> Whole
     Whole::Number { value, used }
 }
 
-// Go's `leading_int`: the digits at the front of `s`. A number above 2^63 is refused behind its last digit, and before one more digit could wrap it.
+// Go's `leadingInt`: the digits at the front of `s`. A number above 2^63 is refused behind its last digit, and before one more digit could wrap it.
 pub fn leading_int(s: &[u8]) -> Whole
     ensures { result ≡ leading_int s.now }
 {

@@ -12,7 +12,7 @@ use Rattle.token_file.specs.declared.row.Row.{Row}
 
 -- ---- rows of a list of records
 
--- a field_at that is not below 0
+-- a field that is not below 0
 abbrev pub natural : ℤ → Bool
 natural (pos n) = true
 natural (negsuc n) = false
@@ -22,7 +22,7 @@ abbrev pub natural_of : ℤ → ℕ
 natural_of (pos n) = n
 natural_of (negsuc n) = 0
 
--- the field_at at place k of a record
+-- the field at place k of a record
 abbrev pub field_at : List ℤ → ℕ → ℤ
 field_at l k = get_or l k (pos 0)
 

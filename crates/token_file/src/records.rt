@@ -8,7 +8,7 @@ use crate::row;
 use crate::row::Row;
 use token::layout::RECORD_WIDTH;
 
-// Whether the field_at at `at` is not below 0.
+// Whether the field at `at` is not below 0.
 fn natural_at(records: &[i64], at: usize) -> bool
     requires { at < length records.now }
     ensures { result ≡ natural (field_at records.now at) }

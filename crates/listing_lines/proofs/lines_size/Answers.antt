@@ -9,47 +9,56 @@ use Rattle.lexer.specs.Token.{next_token}
 use Rattle.reading.specs.Buffers.{record_of}
 use Rattle.listing_lines.specs.Lines.{line_text, line_numbers}
 use Rattle.listing_lines.proofs.Measures.{measuring_start, token_fits, line_few, measuring_end, measuring_less, measuring_turn}
+use Rattle.listing_lines.proofs.lines_size.Goals.{After-line_size-size, After-next_token-t}
 use Rattle.listing_lines.proofs.lines_size.Goals as goal
+
+-- the token, with the default limit
+token_is : (c : After-next_token-t) → c.next_token-t.result ≡ next_token Strict max_bytes_literal_length c.args.text.now c.loop-t.place.offset
+token_is c = rw c.default_bytes_limit-limit.ensures at c.next_token-t.ensures
+
+-- the size of its line
+size_is : (c : After-line_size-size) → c.line_size-size.result ≡ length (line_text (line_numbers (record_of 0 c.next_token-t.result)))
+size_is c = rw c.token_numbers-row.ensures at c.line_size-size.ensures
 
 pub loop-t-init : goal.loop-t-init
 loop-t-init c = search measuring_start
 
 pub token_numbers-row-requires : goal.token_numbers-row-requires
 token_numbers-row-requires c =
-    let token_is : c.next_token-t.result ≡ next_token Strict max_bytes_literal_length c.args.text.now c.loop-t.place.offset =
-    rw c.default_bytes_limit-limit.ensures at c.next_token-t.ensures in
-    token_fits c.loop-t.invariant token_is (λ k. (c.type_inv.text k).fits)
+    let at = goal.at.token_numbers-row-requires c in
+    token_fits c.loop-t.invariant (token_is at.After-next_token-t) (λ k. (c.type_inv.text k).fits)
 
 pub line_size-size-requires : goal.line_size-size-requires
 line_size-size-requires c = rw c.token_numbers-row.ensures (omega arith)
 
 pub overflow_add-size : goal.overflow_add-size
 overflow_add-size c =
-    let token_is : c.next_token-t.result ≡ next_token Strict max_bytes_literal_length c.args.text.now c.loop-t.place.offset =
-    rw c.default_bytes_limit-limit.ensures at c.next_token-t.ensures in
-    let size_is : c.line_size-size.result ≡ length (line_text (line_numbers (record_of 0 c.next_token-t.result))) =
-    rw c.token_numbers-row.ensures at c.line_size-size.ensures in
+    let at = goal.at.overflow_add-size c in
     let w = c.loop-t.invariant in
-    record { fits = omega (arith, size_is, line_few w token_is, w.few, w.walkable.inside, w.walkable.short) }
+    record {
+      fits = omega (
+        arith,
+        (size_is at.After-line_size-size),
+        line_few w (token_is at.After-next_token-t),
+        w.few,
+        w.walkable.inside,
+        w.walkable.short,
+      );
+    }
 
 pub returns-then-is_eof : goal.returns-then-is_eof
 returns-then-is_eof c =
-    let token_is : c.next_token-t.result ≡ next_token Strict max_bytes_literal_length c.args.text.now c.loop-t.place.offset =
-    rw c.default_bytes_limit-limit.ensures at c.next_token-t.ensures in
-    let size_is : c.line_size-size.result ≡ length (line_text (line_numbers (record_of 0 c.next_token-t.result))) =
-    rw c.token_numbers-row.ensures at c.line_size-size.ensures in
-    measuring_end c.loop-t.invariant token_is size_is (eqb-true _ _ (sym c.is_eof.ensures ∙ c.if-is_eof.true))
+    let at = goal.at.returns-then-is_eof c in
+    measuring_end c.loop-t.invariant (token_is at.After-next_token-t) (size_is at.After-line_size-size)
+    (eqb-true _ _ (sym c.is_eof.ensures ∙ c.if-is_eof.true))
 
 pub loop-t-smaller : goal.loop-t-smaller
 loop-t-smaller c =
-    let token_is : c.next_token-t.result ≡ next_token Strict max_bytes_literal_length c.args.text.now c.loop-t.place.offset =
-    rw c.default_bytes_limit-limit.ensures at c.next_token-t.ensures in
-    measuring_less c.loop-t.invariant token_is (eqb-false _ _ (sym c.is_eof.ensures ∙ c.if-is_eof.false))
+    let at = goal.at.loop-t-smaller c in
+    measuring_less c.loop-t.invariant (token_is at.After-next_token-t) (eqb-false _ _ (sym c.is_eof.ensures ∙ c.if-is_eof.false))
 
 pub loop-t-preserved : goal.loop-t-preserved
 loop-t-preserved c =
-    let token_is : c.next_token-t.result ≡ next_token Strict max_bytes_literal_length c.args.text.now c.loop-t.place.offset =
-    rw c.default_bytes_limit-limit.ensures at c.next_token-t.ensures in
-    let size_is : c.line_size-size.result ≡ length (line_text (line_numbers (record_of 0 c.next_token-t.result))) =
-    rw c.token_numbers-row.ensures at c.line_size-size.ensures in
-    measuring_turn c.loop-t.invariant token_is (eqb-false _ _ (sym c.is_eof.ensures ∙ c.if-is_eof.false)) size_is
+    let at = goal.at.loop-t-preserved c in
+    measuring_turn c.loop-t.invariant (token_is at.After-next_token-t) (eqb-false _ _ (sym c.is_eof.ensures ∙ c.if-is_eof.false))
+    (size_is at.After-line_size-size)

@@ -8,7 +8,13 @@ use Rattle.base.proofs.Storings.{Storing, storing_first, storing_end}
 use Rattle.base64_lenient.specs.Lenient.{regroup}
 use Rattle.base64_lenient.specs.Helpers.{bytes_from}
 use Rattle.base64_lenient.proofs.Groups.{none_at_end, whole_stored, group_room, group_stored, last_stored}
+use Rattle.base64_lenient.proofs.decode.put_bytes.Goals.{After-whole_groups-n}
 use Rattle.base64_lenient.proofs.decode.put_bytes.Goals as goal
+
+-- after them
+whole : (c : After-whole_groups-n) → let a = c.args in let n = c.whole_groups-n.result in Storing (bytes_from a.run.now 0) a.out.now 0
+    (bytes_from a.run.now (c.loop-i.i + n * 4)) c.whole_groups-n.new.out (c.loop-i.o + n * 3)
+whole c = whole_stored _ _ c.loop-i.invariant.1 c.whole_groups-n.ensures
 
 pub loop-i-init : goal.loop-i-init
 loop-i-init c = (omega arith, storing_first (omega arith))
@@ -22,33 +28,26 @@ next_group-group-requires c = (refl, c.whole_groups-n.ensures.inside)
 
 pub put_group-requires : goal.put_group-requires
 put_group-requires c =
-    let whole : let a = c.args in let n = c.whole_groups-n.result in Storing (bytes_from a.run.now 0) a.out.now 0
-    (bytes_from a.run.now (c.loop-i.i + n * 4)) c.whole_groups-n.new.out (c.loop-i.o + n * 3) =
-    whole_stored _ _ c.loop-i.invariant.1 c.whole_groups-n.ensures in
+    let at = goal.at.put_group-requires c in
     let e = c.next_group-group.ensures in
-    (e.gathered.few, group_room _ _ whole e, e.gathered.small)
+    (e.gathered.few, group_room _ _ (whole at.After-whole_groups-n) e, e.gathered.small)
 
 pub shape_of-out-then-count-lt4 : goal.shape_of-out-then-count-lt4
 shape_of-out-then-count-lt4 c =
-    let whole : let a = c.args in let n = c.whole_groups-n.result in Storing (bytes_from a.run.now 0) a.out.now 0
-    (bytes_from a.run.now (c.loop-i.i + n * 4)) c.whole_groups-n.new.out (c.loop-i.o + n * 3) =
-    whole_stored _ _ c.loop-i.invariant.1 c.whole_groups-n.ensures in
-    ap length (last_stored _ _ whole c.next_group-group.ensures _ c.put_group.ensures c.if-count-lt4.true) ∙ simp length-sets
+    let at = goal.at.shape_of-out-then-count-lt4 c in
+    ap length (last_stored _ _ (whole at.After-whole_groups-n) c.next_group-group.ensures _ c.put_group.ensures c.if-count-lt4.true) ∙ simp
+    length-sets
 
 pub returns-then-count-lt4 : goal.returns-then-count-lt4
 returns-then-count-lt4 c =
-    let whole : let a = c.args in let n = c.whole_groups-n.result in Storing (bytes_from a.run.now 0) a.out.now 0
-    (bytes_from a.run.now (c.loop-i.i + n * 4)) c.whole_groups-n.new.out (c.loop-i.o + n * 3) =
-    whole_stored _ _ c.loop-i.invariant.1 c.whole_groups-n.ensures in
-    last_stored _ _ whole c.next_group-group.ensures _ c.put_group.ensures c.if-count-lt4.true
+    let at = goal.at.returns-then-count-lt4 c in
+    last_stored _ _ (whole at.After-whole_groups-n) c.next_group-group.ensures _ c.put_group.ensures c.if-count-lt4.true
 
 pub loop-i-preserved : goal.loop-i-preserved
 loop-i-preserved c =
-    let whole : let a = c.args in let n = c.whole_groups-n.result in Storing (bytes_from a.run.now 0) a.out.now 0
-    (bytes_from a.run.now (c.loop-i.i + n * 4)) c.whole_groups-n.new.out (c.loop-i.o + n * 3) =
-    whole_stored _ _ c.loop-i.invariant.1 c.whole_groups-n.ensures in
+    let at = goal.at.loop-i-preserved c in
     let e = c.next_group-group.ensures in
-    (e.gathered.inside, group_stored _ _ whole e _ c.put_group.ensures c.if-count-lt4.false)
+    (e.gathered.inside, group_stored _ _ (whole at.After-whole_groups-n) e _ c.put_group.ensures c.if-count-lt4.false)
 
 pub shape_of-out : goal.shape_of-out
 shape_of-out c = c.loop-i.invariant.1.same

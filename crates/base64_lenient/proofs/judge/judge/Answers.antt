@@ -8,7 +8,12 @@ use Rattle.base.proofs.Tests.{by_cases}
 use Rattle.base64_lenient.specs.Helpers.{SeenTo}
 use Rattle.base64_lenient.proofs.Sights.{part_size, seen_start, seen_further}
 use Rattle.base64_lenient.proofs.Verdicts.{dead_is, judged_whole}
+use Rattle.base64_lenient.proofs.judge.judge.Goals.{After-all-seen}
 use Rattle.base64_lenient.proofs.judge.judge.Goals as goal
+
+-- what was seen to the end of the block
+further : (c : After-all-seen) → SeenTo c.args.run.now c.all-seen.result c.block_end-end.result
+further c = seen_further _ _ _ c.rows-passed.ensures.0 _ c.block_end-end.ensures.0 c.block_end-end.ensures.1 _ c.all-seen.ensures
 
 pub loop-i-init : goal.loop-i-init
 loop-i-init c = rw c.none-seen.ensures (seen_start _)
@@ -24,9 +29,8 @@ all-seen-requires c = let u = c.rows-passed.ensures.0 in
 
 pub returns-then-seen-eq0 : goal.returns-then-seen-eq0
 returns-then-seen-eq0 c =
-    let further : SeenTo c.args.run.now c.all-seen.result c.block_end-end.result =
-    seen_further _ _ _ c.rows-passed.ensures.0 _ c.block_end-end.ensures.0 c.block_end-end.ensures.1 _ c.all-seen.ensures in
-    dead_is _ _ _ further c.if-seen-eq0.true
+    let at = goal.at.returns-then-seen-eq0 c in
+    dead_is _ _ _ (further at.After-all-seen) c.if-seen-eq0.true
 
 -- the block has a byte, or what stood before it has
 pub loop-i-smaller : goal.loop-i-smaller
@@ -39,9 +43,8 @@ loop-i-smaller c = let run = c.args.run.now in
 
 pub loop-i-preserved : goal.loop-i-preserved
 loop-i-preserved c =
-    let further : SeenTo c.args.run.now c.all-seen.result c.block_end-end.result =
-    seen_further _ _ _ c.rows-passed.ensures.0 _ c.block_end-end.ensures.0 c.block_end-end.ensures.1 _ c.all-seen.ensures in
-    further
+    let at = goal.at.loop-i-preserved c in
+    further at.After-all-seen
 
 pub returns : goal.returns
 returns c = c.judged.ensures ∙ judged_whole _ _ _ c.loop-i.invariant c.loop-i-test.false

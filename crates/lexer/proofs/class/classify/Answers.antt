@@ -7,7 +7,19 @@ use Rattle.base.specs.Classes.{is_digit, is_ident_start}
 use Rattle.lexer.specs.Lexer.{class_of, class_at}
 use Rattle.lexer.specs.declared.class.Class.TheVariants as C
 use borrow.Author.Rules.{rules}
+use Rattle.lexer.proofs.class.classify.Goals.{In_default}
 use Rattle.lexer.proofs.class.classify.Goals as goal
+
+-- none of the keys: the digits, the names and the rest are left
+others : (c : In_default) → class_at c.args.s.now ≡ pick (is_digit c.peek-a.result) C.Number (pick (is_ident_start c.peek-a.result) C.Name C.Other)
+unfolding class_at class_of
+others c =
+    let r = c.in_default.in_default-own.rest in let k = r.0.0.0.0.0.0.0.0 in rw
+    (← c.peek-a.ensures, ne_eqb _ _ k.0.0.0.0.0.0.0.1, ne_eqb _ _ k.0.0.0.0.0.0.1)
+    (rw (ne_eqb _ _ k.0.0.0.0.0.1, ne_eqb _ _ k.0.0.0.0.1, ne_eqb _ _ k.0.0.0.1, ne_eqb _ _ k.0.0.1)
+    (rw (ne_eqb _ _ k.0.1, ne_eqb _ _ k.1, ne_eqb _ _ r.0.0.0.0.0.0.0.1, ne_eqb _ _ r.0.0.0.0.0.0.1)
+    (rw (ne_eqb _ _ r.0.0.0.0.0.1, ne_eqb _ _ r.0.0.0.0.1, ne_eqb _ _ r.0.0.0.1, ne_eqb _ _ r.0.0.1)
+    (rw (ne_eqb _ _ r.0.1, ne_eqb _ _ (λ e. r.1 (inl e)), ne_eqb _ _ (λ e. r.1 (inr e)))))))
 
 pub peek-a-requires : goal.peek-a-requires
 unfolding class_at class_of
@@ -61,14 +73,8 @@ is_digit-requires c = search rules
 pub returns-then-is_digit : goal.returns-then-is_digit
 unfolding class_at class_of
 returns-then-is_digit c =
-    let others : class_at c.args.s.now ≡ pick (is_digit c.peek-a.result) C.Number (pick (is_ident_start c.peek-a.result) C.Name C.Other) =
-    let r = c.in_default.in_default-own.rest in let k = r.0.0.0.0.0.0.0.0 in rw
-    (← c.peek-a.ensures, ne_eqb _ _ k.0.0.0.0.0.0.0.1, ne_eqb _ _ k.0.0.0.0.0.0.1)
-    (rw (ne_eqb _ _ k.0.0.0.0.0.1, ne_eqb _ _ k.0.0.0.0.1, ne_eqb _ _ k.0.0.0.1, ne_eqb _ _ k.0.0.1)
-    (rw (ne_eqb _ _ k.0.1, ne_eqb _ _ k.1, ne_eqb _ _ r.0.0.0.0.0.0.0.1, ne_eqb _ _ r.0.0.0.0.0.0.1)
-    (rw (ne_eqb _ _ r.0.0.0.0.0.1, ne_eqb _ _ r.0.0.0.0.1, ne_eqb _ _ r.0.0.0.1, ne_eqb _ _ r.0.0.1)
-    (rw (ne_eqb _ _ r.0.1, ne_eqb _ _ (λ e. r.1 (inl e)), ne_eqb _ _ (λ e. r.1 (inr e))))))) in
-    rw (others, ← c.is_digit.ensures, c.if-is_digit.true)
+    let at = goal.at.returns-then-is_digit c in
+    rw ((others at.In_default), ← c.is_digit.ensures, c.if-is_digit.true)
 
 pub is_ident_start-requires : goal.is_ident_start-requires
 unfolding class_at class_of
@@ -78,14 +84,8 @@ is_ident_start-requires c = search rules
 pub returns-then-is_ident_start : goal.returns-then-is_ident_start
 unfolding class_at class_of
 returns-then-is_ident_start c =
-    let others : class_at c.args.s.now ≡ pick (is_digit c.peek-a.result) C.Number (pick (is_ident_start c.peek-a.result) C.Name C.Other) =
-    let r = c.in_default.in_default-own.rest in let k = r.0.0.0.0.0.0.0.0 in rw
-    (← c.peek-a.ensures, ne_eqb _ _ k.0.0.0.0.0.0.0.1, ne_eqb _ _ k.0.0.0.0.0.0.1)
-    (rw (ne_eqb _ _ k.0.0.0.0.0.1, ne_eqb _ _ k.0.0.0.0.1, ne_eqb _ _ k.0.0.0.1, ne_eqb _ _ k.0.0.1)
-    (rw (ne_eqb _ _ k.0.1, ne_eqb _ _ k.1, ne_eqb _ _ r.0.0.0.0.0.0.0.1, ne_eqb _ _ r.0.0.0.0.0.0.1)
-    (rw (ne_eqb _ _ r.0.0.0.0.0.1, ne_eqb _ _ r.0.0.0.0.1, ne_eqb _ _ r.0.0.0.1, ne_eqb _ _ r.0.0.1)
-    (rw (ne_eqb _ _ r.0.1, ne_eqb _ _ (λ e. r.1 (inl e)), ne_eqb _ _ (λ e. r.1 (inr e))))))) in
-    rw (others, ← c.is_digit.ensures, c.if-is_digit.false, ← c.is_ident_start.ensures, c.if-is_ident_start.true)
+    let at = goal.at.returns-then-is_ident_start c in
+    rw ((others at.In_default), ← c.is_digit.ensures, c.if-is_digit.false, ← c.is_ident_start.ensures, c.if-is_ident_start.true)
 
 pub returns-in-10 : goal.returns-in-10
 unfolding class_at class_of
@@ -156,11 +156,5 @@ returns-in-43 c = rw (← c.peek-a.ensures) (⊎_elim (λ h. rw h) (λ h. rw h) 
 pub returns-else-is_ident_start : goal.returns-else-is_ident_start
 unfolding class_at class_of
 returns-else-is_ident_start c =
-    let others : class_at c.args.s.now ≡ pick (is_digit c.peek-a.result) C.Number (pick (is_ident_start c.peek-a.result) C.Name C.Other) =
-    let r = c.in_default.in_default-own.rest in let k = r.0.0.0.0.0.0.0.0 in rw
-    (← c.peek-a.ensures, ne_eqb _ _ k.0.0.0.0.0.0.0.1, ne_eqb _ _ k.0.0.0.0.0.0.1)
-    (rw (ne_eqb _ _ k.0.0.0.0.0.1, ne_eqb _ _ k.0.0.0.0.1, ne_eqb _ _ k.0.0.0.1, ne_eqb _ _ k.0.0.1)
-    (rw (ne_eqb _ _ k.0.1, ne_eqb _ _ k.1, ne_eqb _ _ r.0.0.0.0.0.0.0.1, ne_eqb _ _ r.0.0.0.0.0.0.1)
-    (rw (ne_eqb _ _ r.0.0.0.0.0.1, ne_eqb _ _ r.0.0.0.0.1, ne_eqb _ _ r.0.0.0.1, ne_eqb _ _ r.0.0.1)
-    (rw (ne_eqb _ _ r.0.1, ne_eqb _ _ (λ e. r.1 (inl e)), ne_eqb _ _ (λ e. r.1 (inr e))))))) in
-    rw (others, ← c.is_digit.ensures, c.if-is_digit.false, ← c.is_ident_start.ensures, c.if-is_ident_start.false)
+    let at = goal.at.returns-else-is_ident_start c in
+    rw ((others at.In_default), ← c.is_digit.ensures, c.if-is_digit.false, ← c.is_ident_start.ensures, c.if-is_ident_start.false)

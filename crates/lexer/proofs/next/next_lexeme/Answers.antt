@@ -10,7 +10,12 @@ use Rattle.lexer.specs.Token.{found_at}
 use Rattle.lexer.proofs.FoundToken.{start_le, from_quote}
 use Rattle.lexer.proofs.Marks.{mark_is}
 use borrow.Author.Tests.{eqb-false}
+use Rattle.lexer.proofs.next.next_lexeme.Goals.{After-skip_spaces-start}
 use Rattle.lexer.proofs.next.next_lexeme.Goals as goal
+
+-- the token starts in the text
+start_in : (c : After-skip_spaces-start) → c.skip_spaces-start.result ≤ length c.args.text.now
+start_in c = rw c.skip_spaces-start.ensures (start_le _ _ c.requires.0)
 
 pub returns-then-not-is_eof : goal.returns-then-not-is_eof
 unfolding found_at
@@ -23,18 +28,18 @@ returns-then-not-is_eof c =
 
 pub slice_bounds-lex_in-count : goal.slice_bounds-lex_in-count
 slice_bounds-lex_in-count c =
-    let start_in : c.skip_spaces-start.result ≤ length c.args.text.now = rw c.skip_spaces-start.ensures (start_le _ _ c.requires.0) in
-    start_in
+    let at = goal.at.slice_bounds-lex_in-count c in
+    start_in at.After-skip_spaces-start
 
 pub slice_bounds-lex_in-start : goal.slice_bounds-lex_in-start
 slice_bounds-lex_in-start c =
-    let start_in : c.skip_spaces-start.result ≤ length c.args.text.now = rw c.skip_spaces-start.ensures (start_le _ _ c.requires.0) in
-    start_in
+    let at = goal.at.slice_bounds-lex_in-start c in
+    start_in at.After-skip_spaces-start
 
 pub lex_in-lexeme-requires : goal.lex_in-lexeme-requires
 lex_in-lexeme-requires c =
-    let start_in : c.skip_spaces-start.result ≤ length c.args.text.now = rw c.skip_spaces-start.ensures (start_le _ _ c.requires.0) in
-    from_quote _ _ c.requires.1 start_in
+    let at = goal.at.lex_in-lexeme-requires c in
+    from_quote _ _ c.requires.1 (start_in at.After-skip_spaces-start)
 
 pub returns : goal.returns
 unfolding found_at

@@ -12,70 +12,78 @@ use Rattle.strings.specs.Literal.{string_notes}
 use Rattle.triple_strings.specs.Triple.{quotes}
 use Rattle.lexer.specs.Reading.{mode_of, notes_in}
 use Rattle.lexer.proofs.Puts.{stop_small, notes_in_text, OneReport, block_report, triple_report, bytes_report, quote_report}
+use Rattle.lexer.proofs.put.put_reports.Goals.{After-bytes_reason-reason, Else-at_quotes, Then-a-eq47, Then-at_quotes}
 use Rattle.lexer.proofs.put.put_reports.Goals as goal
+
+-- what its report is, by the branch
+block : (c : Then-a-eq47) → OneReport c.requires reasons.open_block_comment
+block c =
+    let rest : List ℕ = drop c.args.start.offset c.args.text.now in
+    let first_is : byte rest 0 ≡ c.peek-a.result = sym (rw rest_is at c.peek-a.ensures) in
+    block_report c.requires (first_is ∙ c.if-a-eq47.true)
+
+bytes : (c : After-bytes_reason-reason) → OneReport c.requires c.bytes_reason-reason.result
+bytes c =
+    let rest : List ℕ = drop c.args.start.offset c.args.text.now in
+    let first_is : byte rest 0 ≡ c.peek-a.result = sym (rw rest_is at c.peek-a.ensures) in
+    bytes_report c.requires (rw rest_is at c.bytes_reason-reason.ensures) (first_is ∙ c.if-a-eq98.true)
+
+triple : (c : Then-at_quotes) → OneReport c.requires reasons.open_triple_string
+triple c =
+    let rest : List ℕ = drop c.args.start.offset c.args.text.now in
+    let quotes_are : quotes rest ≡ c.at_quotes.result = sym (rw rest_is at c.at_quotes.ensures) in
+    triple_report c.requires (quotes_are ∙ c.if-at_quotes.true)
+
+-- or its reports are those of a string of one line
+literal : (c : Else-at_quotes) → let rest : List ℕ = drop c.args.start.offset c.args.text.now in notes_in c.args.mode c.args.limit rest ≡
+    string_notes (mode_of c.args.mode) rest
+literal c =
+    let rest : List ℕ = drop c.args.start.offset c.args.text.now in
+    let first_is : byte rest 0 ≡ c.peek-a.result = sym (rw rest_is at c.peek-a.ensures) in
+    let quotes_are : quotes rest ≡ c.at_quotes.result = sym (rw rest_is at c.at_quotes.ensures) in
+    quote_report c.requires (λ z. c.if-a-eq47.false (sym first_is ∙ z)) (λ z. c.if-a-eq98.false (sym first_is ∙ z))
+    (quotes_are ∙ c.if-at_quotes.false)
 
 -- ---- the needs
 pub put_at_start-requires : goal.put_at_start-requires
 put_at_start-requires c =
-    let rest : List ℕ = drop c.args.start.offset c.args.text.now in
-    let first_is : byte rest 0 ≡ c.peek-a.result = sym (rw rest_is at c.peek-a.ensures) in
-    let block : OneReport c.requires reasons.open_block_comment = block_report c.requires (first_is ∙ c.if-a-eq47.true) in
-    (c.requires.walkable, omega arith, block.room_for)
+    let at = goal.at.put_at_start-requires c in
+    (c.requires.walkable, omega arith, (block at.Then-a-eq47).room_for)
 
 pub returns-then-a-eq47 : goal.returns-then-a-eq47
 returns-then-a-eq47 c =
-    let rest : List ℕ = drop c.args.start.offset c.args.text.now in
-    let first_is : byte rest 0 ≡ c.peek-a.result = sym (rw rest_is at c.peek-a.ensures) in
-    let block : OneReport c.requires reasons.open_block_comment = block_report c.requires (first_is ∙ c.if-a-eq47.true) in
-    rw block.is c.put_at_start.ensures
+    let at = goal.at.returns-then-a-eq47 c in
+    rw (block at.Then-a-eq47).is c.put_at_start.ensures
 
 pub put_at_start-requires-then-a-eq98 : goal.put_at_start-requires-then-a-eq98
 put_at_start-requires-then-a-eq98 c =
-    let rest : List ℕ = drop c.args.start.offset c.args.text.now in
-    let first_is : byte rest 0 ≡ c.peek-a.result = sym (rw rest_is at c.peek-a.ensures) in
-    let bytes : OneReport c.requires c.bytes_reason-reason.result =
-    bytes_report c.requires (rw rest_is at c.bytes_reason-reason.ensures) (first_is ∙ c.if-a-eq98.true) in
-    (c.requires.walkable, rw c.bytes_reason-reason.ensures (stop_small _), bytes.room_for)
+    let at = goal.at.put_at_start-requires-then-a-eq98 c in
+    (c.requires.walkable, rw c.bytes_reason-reason.ensures (stop_small _), (bytes at.After-bytes_reason-reason).room_for)
 
 pub returns-then-a-eq98 : goal.returns-then-a-eq98
 returns-then-a-eq98 c =
-    let rest : List ℕ = drop c.args.start.offset c.args.text.now in
-    let first_is : byte rest 0 ≡ c.peek-a.result = sym (rw rest_is at c.peek-a.ensures) in
-    let bytes : OneReport c.requires c.bytes_reason-reason.result =
-    bytes_report c.requires (rw rest_is at c.bytes_reason-reason.ensures) (first_is ∙ c.if-a-eq98.true) in
-    rw bytes.is c.put_at_start-then-a-eq98.ensures
+    let at = goal.at.returns-then-a-eq98 c in
+    rw (bytes at.After-bytes_reason-reason).is c.put_at_start-then-a-eq98.ensures
 
 pub put_at_start-requires-then-at_quotes : goal.put_at_start-requires-then-at_quotes
 put_at_start-requires-then-at_quotes c =
-    let rest : List ℕ = drop c.args.start.offset c.args.text.now in
-    let quotes_are : quotes rest ≡ c.at_quotes.result = sym (rw rest_is at c.at_quotes.ensures) in
-    let triple : OneReport c.requires reasons.open_triple_string = triple_report c.requires (quotes_are ∙ c.if-at_quotes.true) in
-    (c.requires.walkable, omega arith, triple.room_for)
+    let at = goal.at.put_at_start-requires-then-at_quotes c in
+    (c.requires.walkable, omega arith, (triple at.Then-at_quotes).room_for)
 
 pub returns-then-at_quotes : goal.returns-then-at_quotes
 returns-then-at_quotes c =
-    let rest : List ℕ = drop c.args.start.offset c.args.text.now in
-    let quotes_are : quotes rest ≡ c.at_quotes.result = sym (rw rest_is at c.at_quotes.ensures) in
-    let triple : OneReport c.requires reasons.open_triple_string = triple_report c.requires (quotes_are ∙ c.if-at_quotes.true) in
-    rw triple.is c.put_at_start-then-at_quotes.ensures
+    let at = goal.at.returns-then-at_quotes c in
+    rw (triple at.Then-at_quotes).is c.put_at_start-then-at_quotes.ensures
 
 pub put_string_notes-requires : goal.put_string_notes-requires
 put_string_notes-requires c =
-    let rest : List ℕ = drop c.args.start.offset c.args.text.now in
-    let first_is : byte rest 0 ≡ c.peek-a.result = sym (rw rest_is at c.peek-a.ensures) in
-    let quotes_are : quotes rest ≡ c.at_quotes.result = sym (rw rest_is at c.at_quotes.ensures) in
-    let literal : notes_in c.args.mode c.args.limit rest ≡ string_notes (mode_of c.args.mode) rest =
-    quote_report c.requires (λ z. c.if-a-eq47.false (sym first_is ∙ z)) (λ z. c.if-a-eq98.false (sym first_is ∙ z)) (quotes_are ∙ c.if-at_quotes.false) in
+    let at = goal.at.put_string_notes-requires c in
     let q = c.requires in
     let w = q.walkable in
     rw c.mode.ensures
-    (record { true_place = w.true_place; inside = notes_in_text q; short = w.short; room = rw literal at q.fits })
+    (record { true_place = w.true_place; inside = notes_in_text q; short = w.short; room = rw (literal at.Else-at_quotes) at q.fits })
 
 pub returns : goal.returns
 returns c =
-    let rest : List ℕ = drop c.args.start.offset c.args.text.now in
-    let first_is : byte rest 0 ≡ c.peek-a.result = sym (rw rest_is at c.peek-a.ensures) in
-    let quotes_are : quotes rest ≡ c.at_quotes.result = sym (rw rest_is at c.at_quotes.ensures) in
-    let literal : notes_in c.args.mode c.args.limit rest ≡ string_notes (mode_of c.args.mode) rest =
-    quote_report c.requires (λ z. c.if-a-eq47.false (sym first_is ∙ z)) (λ z. c.if-a-eq98.false (sym first_is ∙ z)) (quotes_are ∙ c.if-at_quotes.false) in
-    rw (literal, ← c.mode.ensures) c.put_string_notes.ensures
+    let at = goal.at.returns c in
+    rw ((literal at.Else-at_quotes), ← c.mode.ensures) c.put_string_notes.ensures

@@ -5,7 +5,12 @@ use Rattle.token.proofs.Places.{first_walkable}
 use Rattle.reading.specs.Refusals.{good_offset}
 use Rattle.reading.specs.Answers.{is_place}
 use Rattle.reading.proofs.Places.{good_in, other_line, same_line}
+use Rattle.reading.proofs.one.is_place.Goals.{Else-not-good_offset}
 use Rattle.reading.proofs.one.is_place.Goals as goal
+
+-- the offset is good
+good : (c : Else-not-good_offset) → let a = c.args in good_offset a.text.now a.place.offset ≡ true
+good c = sym c.good_offset.ensures ∙ c.if-not-good_offset.false
 
 pub returns-then-not-good_offset : goal.returns-then-not-good_offset
 unfolding is_place
@@ -13,15 +18,15 @@ returns-then-not-good_offset c = rw (sym c.good_offset.ensures ∙ c.if-not-good
 
 pub walk-p-requires : goal.walk-p-requires
 walk-p-requires c =
-    let good : let a = c.args in good_offset a.text.now a.place.offset ≡ true = sym c.good_offset.ensures ∙ c.if-not-good_offset.false in
-    first_walkable _ _ c.first.ensures c.requires _ (good_in _ _ good)
+    let at = goal.at.walk-p-requires c in
+    first_walkable _ _ c.first.ensures c.requires _ (good_in _ _ (good at.Else-not-good_offset))
 
 pub returns-then-place-p : goal.returns-then-place-p
 returns-then-place-p c =
-    let good : let a = c.args in good_offset a.text.now a.place.offset ≡ true = sym c.good_offset.ensures ∙ c.if-not-good_offset.false in
-    other_line _ _ good c.walk-p.result c.walk-p.ensures c.if-place-p.true
+    let at = goal.at.returns-then-place-p c in
+    other_line _ _ (good at.Else-not-good_offset) c.walk-p.result c.walk-p.ensures c.if-place-p.true
 
 pub returns : goal.returns
 returns c =
-    let good : let a = c.args in good_offset a.text.now a.place.offset ≡ true = sym c.good_offset.ensures ∙ c.if-not-good_offset.false in
-    same_line _ _ good c.walk-p.result c.walk-p.ensures c.if-place-p.false
+    let at = goal.at.returns c in
+    same_line _ _ (good at.Else-not-good_offset) c.walk-p.result c.walk-p.ensures c.if-place-p.false

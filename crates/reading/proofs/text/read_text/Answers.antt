@@ -10,7 +10,18 @@ use Rattle.reading.specs.declared.judge.Judged.TheVariants.{Fit}
 use Rattle.reading.proofs.Refusals.{fitting, well_octets, tokens_short, strings_short, reports_short, enough}
 use Rattle.reading.proofs.Fits.{suffice_room}
 use Rattle.reading.proofs.TextAnswers.{few, unfit, short, done}
+use Rattle.reading.proofs.text.read_text.Goals.{Else-reports-k, Then-suffice}
 use Rattle.reading.proofs.text.read_text.Goals as goal
+
+-- the buffers suffice in any case
+roomy : (c : Then-suffice) → let a = c.args in Room (whole_laid a.mode a.limit a.text.now) (length a.tokens.now) (length a.strings.now)
+    (length a.reports.now)
+roomy c = suffice_room _ _ _ _ _ _ (sym c.suffice.ensures ∙ c.if-suffice.true)
+
+-- they hold what is measured
+measured : (c : Else-reports-k) → let a = c.args in Room (whole_laid a.mode a.limit a.text.now) (length a.tokens.now) (length a.strings.now)
+    (length a.reports.now)
+measured c = enough c.measure-counts.ensures c.if-tokens-n.false c.if-strings-m.false c.if-reports-k.false
 
 -- ---- the needs
 pub returns-in-Unfit : goal.returns-in-Unfit
@@ -23,18 +34,16 @@ suffice-requires c =
 
 pub write-written-requires : goal.write-written-requires
 write-written-requires c =
+    let at = goal.at.write-written-requires c in
     let fit : judge_of c.args.text.now ≡ Fit = sym c.judge.ensures ∙ c.in-Fit.is in
-    let roomy : let a = c.args in Room (whole_laid a.mode a.limit a.text.now) (length a.tokens.now) (length a.strings.now) (length a.reports.now) =
-    suffice_room _ _ _ _ _ _ (sym c.suffice.ensures ∙ c.if-suffice.true) in
     let f = fitting _ fit in
-    (f.0, roomy, well_octets _ f.1)
+    (f.0, (roomy at.Then-suffice), well_octets _ f.1)
 
 pub returns-then-suffice : goal.returns-then-suffice
 returns-then-suffice c =
+    let at = goal.at.returns-then-suffice c in
     let fit : judge_of c.args.text.now ≡ Fit = sym c.judge.ensures ∙ c.in-Fit.is in
-    let roomy : let a = c.args in Room (whole_laid a.mode a.limit a.text.now) (length a.tokens.now) (length a.strings.now) (length a.reports.now) =
-    suffice_room _ _ _ _ _ _ (sym c.suffice.ensures ∙ c.if-suffice.true) in
-    done fit c.write-written.ensures.0 roomy c.write-written.ensures.1
+    done fit c.write-written.ensures.0 (roomy at.Then-suffice) c.write-written.ensures.1
 
 pub measure-counts-requires : goal.measure-counts-requires
 measure-counts-requires c =
@@ -70,15 +79,13 @@ returns-then-reports-k c =
 
 pub write-requires : goal.write-requires
 write-requires c =
+    let at = goal.at.write-requires c in
     let fit : judge_of c.args.text.now ≡ Fit = sym c.judge.ensures ∙ c.in-Fit.is in
-    let measured : let a = c.args in Room (whole_laid a.mode a.limit a.text.now) (length a.tokens.now) (length a.strings.now) (length a.reports.now) =
-    enough c.measure-counts.ensures c.if-tokens-n.false c.if-strings-m.false c.if-reports-k.false in
     let f = fitting _ fit in
-    (f.0, measured, well_octets _ f.1)
+    (f.0, (measured at.Else-reports-k), well_octets _ f.1)
 
 pub returns : goal.returns
 returns c =
+    let at = goal.at.returns c in
     let fit : judge_of c.args.text.now ≡ Fit = sym c.judge.ensures ∙ c.in-Fit.is in
-    let measured : let a = c.args in Room (whole_laid a.mode a.limit a.text.now) (length a.tokens.now) (length a.strings.now) (length a.reports.now) =
-    enough c.measure-counts.ensures c.if-tokens-n.false c.if-strings-m.false c.if-reports-k.false in
-    done fit c.measure-counts.ensures measured c.write.ensures.1
+    done fit c.measure-counts.ensures (measured at.Else-reports-k) c.write.ensures.1

@@ -7,7 +7,59 @@ use native.Mathlib.Omega.{arith}
 use Rattle.strings.proofs.Decodes.{run_ge, run_source, run_gives, simple_gives, step_four, step_gives, step_less}
 use Rattle.strings.proofs.Turns.{quote_stop, Writing, writing_first, writing_room, writing_more, writing_none, writing_stop}
 use Rattle.strings.proofs.Closings.{left_in, left_room, left_source, text_left, last_same, last_copied}
+use Rattle.strings.proofs.lex.put_string.Goals.{After-copy-in-loop-i, After-put, After-put_simple-escapes, Else-escapes-ne0}
 use Rattle.strings.proofs.lex.put_string.Goals as goal
+
+-- the run is copied
+copied : (c : After-copy-in-loop-i) → let run_end : ℕ = c.ordinary_end-e.result in let next : ℕ = c.loop-i.p + (run_end - c.loop-i.i) in let Written
+    : List ℕ → ℕ → ℕ → Type 0 = λ out j p. let a = c.args in Writing a.mode a.s.now a.len a.out.now a.place (a.place + a.size) out j p in Written
+    c.copy-in-loop-i.new.dst run_end next
+copied c =
+    let run_end : ℕ = c.ordinary_end-e.result in
+    let next : ℕ = c.loop-i.p + (run_end - c.loop-i.i) in
+    let Written : List ℕ → ℕ → ℕ → Type 0 = λ out j p. let a = c.args in Writing a.mode a.s.now a.len a.out.now a.place (a.place + a.size) out j p in
+    let u = c.loop-i.invariant in writing_more u (run_gives _ _ _ c.ordinary_end-e.ensures u.inside _) _ c.copy-in-loop-i.ensures
+
+-- the escapes after it are stored
+escaped : (c : After-put_simple-escapes) → let run_end : ℕ = c.ordinary_end-e.result in let next : ℕ = c.loop-i.p + (run_end - c.loop-i.i) in
+    let Written : List ℕ → ℕ → ℕ → Type 0 = λ out j p. let a = c.args in Writing a.mode a.s.now a.len a.out.now a.place (a.place + a.size) out j p in
+    let n = c.put_simple-escapes.result in Written c.put_simple-escapes.new.out (run_end + 2 * n) (next + n)
+escaped c =
+    let run_end : ℕ = c.ordinary_end-e.result in
+    let next : ℕ = c.loop-i.p + (run_end - c.loop-i.i) in
+    let Written : List ℕ → ℕ → ℕ → Type 0 = λ out j p. let a = c.args in Writing a.mode a.s.now a.len a.out.now a.place (a.place + a.size) out j p in
+    let copied : Written c.copy-in-loop-i.new.dst run_end next = let u = c.loop-i.invariant in writing_more u
+    (run_gives _ _ _ c.ordinary_end-e.ensures u.inside _) _ c.copy-in-loop-i.ensures in
+    let w = copied in writing_more w (simple_gives _ _ _ w.inside c.put_simple-escapes.ensures.0 _) _ c.put_simple-escapes.ensures.1
+
+-- there are none
+stepping : (c : Else-escapes-ne0) → let run_end : ℕ = c.ordinary_end-e.result in let next : ℕ = c.loop-i.p + (run_end - c.loop-i.i) in let Written :
+    List ℕ → ℕ → ℕ → Type 0 = λ out j p. let a = c.args in Writing a.mode a.s.now a.len a.out.now a.place (a.place + a.size) out j p in Written
+    c.put_simple-escapes.new.out run_end next
+stepping c =
+    let run_end : ℕ = c.ordinary_end-e.result in
+    let next : ℕ = c.loop-i.p + (run_end - c.loop-i.i) in
+    let Written : List ℕ → ℕ → ℕ → Type 0 = λ out j p. let a = c.args in Writing a.mode a.s.now a.len a.out.now a.place (a.place + a.size) out j p in
+    let copied : Written c.copy-in-loop-i.new.dst run_end next = let u = c.loop-i.invariant in writing_more u
+    (run_gives _ _ _ c.ordinary_end-e.ensures u.inside _) _ c.copy-in-loop-i.ensures in
+    let escaped : let n = c.put_simple-escapes.result in Written c.put_simple-escapes.new.out (run_end + 2 * n) (next + n) = let w = copied in
+    writing_more w (simple_gives _ _ _ w.inside c.put_simple-escapes.ensures.0 _) _ c.put_simple-escapes.ensures.1 in
+    writing_none _ _ _ escaped c.if-escapes-ne0.false
+
+-- the bytes of a step are stored
+stepped : (c : After-put) → let run_end : ℕ = c.ordinary_end-e.result in let next : ℕ = c.loop-i.p + (run_end - c.loop-i.i) in let Written : List ℕ →
+    ℕ → ℕ → Type 0 = λ out j p. let a = c.args in Writing a.mode a.s.now a.len a.out.now a.place (a.place + a.size) out j p in Written c.put.new.out
+    (run_end + c.in-Go.used) (next + c.in-Go.n)
+stepped c =
+    let run_end : ℕ = c.ordinary_end-e.result in
+    let next : ℕ = c.loop-i.p + (run_end - c.loop-i.i) in
+    let Written : List ℕ → ℕ → ℕ → Type 0 = λ out j p. let a = c.args in Writing a.mode a.s.now a.len a.out.now a.place (a.place + a.size) out j p in
+    let copied : Written c.copy-in-loop-i.new.dst run_end next = let u = c.loop-i.invariant in writing_more u
+    (run_gives _ _ _ c.ordinary_end-e.ensures u.inside _) _ c.copy-in-loop-i.ensures in
+    let escaped : let n = c.put_simple-escapes.result in Written c.put_simple-escapes.new.out (run_end + 2 * n) (next + n) = let w = copied in
+    writing_more w (simple_gives _ _ _ w.inside c.put_simple-escapes.ensures.0 _) _ c.put_simple-escapes.ensures.1 in
+    let stepping : Written c.put_simple-escapes.new.out run_end next = writing_none _ _ _ escaped c.if-escapes-ne0.false in
+    let v = stepping in writing_more v (step_gives _ _ _ c.step_at-st.ensures c.in-Go.is v.inside) _ c.put.ensures
 
 pub loop-i-init : goal.loop-i-init
 loop-i-init c = search writing_first
@@ -41,196 +93,88 @@ copy-requires-in-loop-i c = let u = c.loop-i.invariant in
 
 pub overflow_add-p : goal.overflow_add-p
 overflow_add-p c =
-    let run_end : ℕ = c.ordinary_end-e.result in
-    let next : ℕ = c.loop-i.p + (run_end - c.loop-i.i) in
-    let Written : List ℕ → ℕ → ℕ → Type 0 = λ out j p. let a = c.args in Writing a.mode a.s.now a.len a.out.now a.place (a.place + a.size) out j p in
-    let copied : Written c.copy-in-loop-i.new.dst run_end next =
-    let u = c.loop-i.invariant in writing_more u (run_gives _ _ _ c.ordinary_end-e.ensures u.inside _) _ c.copy-in-loop-i.ensures in
-    omega (arith, copied.store.room, c.well_formed)
+    let at = goal.at.overflow_add-p c in
+    omega (arith, (copied at.After-copy-in-loop-i).store.room, c.well_formed)
 
 pub shape_of-out-then-peek-eq34 : goal.shape_of-out-then-peek-eq34
 shape_of-out-then-peek-eq34 c =
-    let run_end : ℕ = c.ordinary_end-e.result in
-    let next : ℕ = c.loop-i.p + (run_end - c.loop-i.i) in
-    let Written : List ℕ → ℕ → ℕ → Type 0 = λ out j p. let a = c.args in Writing a.mode a.s.now a.len a.out.now a.place (a.place + a.size) out j p in
-    let copied : Written c.copy-in-loop-i.new.dst run_end next =
-    let u = c.loop-i.invariant in writing_more u (run_gives _ _ _ c.ordinary_end-e.ensures u.inside _) _ c.copy-in-loop-i.ensures in
-    copied.store.same
+    let at = goal.at.shape_of-out-then-peek-eq34 c in
+    (copied at.After-copy-in-loop-i).store.same
 
 pub returns-then-peek-eq34 : goal.returns-then-peek-eq34
 returns-then-peek-eq34 c =
-    let run_end : ℕ = c.ordinary_end-e.result in
-    let next : ℕ = c.loop-i.p + (run_end - c.loop-i.i) in
-    let Written : List ℕ → ℕ → ℕ → Type 0 = λ out j p. let a = c.args in Writing a.mode a.s.now a.len a.out.now a.place (a.place + a.size) out j p in
-    let copied : Written c.copy-in-loop-i.new.dst run_end next =
-    let u = c.loop-i.invariant in writing_more u (run_gives _ _ _ c.ordinary_end-e.ensures u.inside _) _ c.copy-in-loop-i.ensures in
-    writing_stop copied (quote_stop _ _ _ _ c.peek.ensures c.if-peek-eq34.true) refl
+    let at = goal.at.returns-then-peek-eq34 c in
+    writing_stop (copied at.After-copy-in-loop-i) (quote_stop _ _ _ _ c.peek.ensures c.if-peek-eq34.true) refl
 
 pub put_simple-escapes-requires : goal.put_simple-escapes-requires
 put_simple-escapes-requires c =
-    let run_end : ℕ = c.ordinary_end-e.result in
-    let next : ℕ = c.loop-i.p + (run_end - c.loop-i.i) in
-    let Written : List ℕ → ℕ → ℕ → Type 0 = λ out j p. let a = c.args in Writing a.mode a.s.now a.len a.out.now a.place (a.place + a.size) out j p in
-    let copied : Written c.copy-in-loop-i.new.dst run_end next =
-    let u = c.loop-i.invariant in writing_more u (run_gives _ _ _ c.ordinary_end-e.ensures u.inside _) _ c.copy-in-loop-i.ensures in
-    let w = copied in
+    let at = goal.at.put_simple-escapes-requires c in
+    let w = (copied at.After-copy-in-loop-i) in
     (w.inside, writing_room w (simple_gives _ _ _ w.inside refl _))
 
 pub overflow_add-p-then-escapes-ne0 : goal.overflow_add-p-then-escapes-ne0
 overflow_add-p-then-escapes-ne0 c =
-    let run_end : ℕ = c.ordinary_end-e.result in
-    let next : ℕ = c.loop-i.p + (run_end - c.loop-i.i) in
-    let Written : List ℕ → ℕ → ℕ → Type 0 = λ out j p. let a = c.args in Writing a.mode a.s.now a.len a.out.now a.place (a.place + a.size) out j p in
-    let copied : Written c.copy-in-loop-i.new.dst run_end next =
-    let u = c.loop-i.invariant in writing_more u (run_gives _ _ _ c.ordinary_end-e.ensures u.inside _) _ c.copy-in-loop-i.ensures in
-    let escaped : let n = c.put_simple-escapes.result in Written c.put_simple-escapes.new.out (run_end + 2 * n) (next + n) =
-    let w = copied in writing_more w (simple_gives _ _ _ w.inside c.put_simple-escapes.ensures.0 _) _ c.put_simple-escapes.ensures.1 in
-    omega (arith, escaped.store.room, c.well_formed)
+    let at = goal.at.overflow_add-p-then-escapes-ne0 c in
+    omega (arith, (escaped at.After-put_simple-escapes).store.room, c.well_formed)
 
 pub overflow_mul-i : goal.overflow_mul-i
 overflow_mul-i c =
-    let run_end : ℕ = c.ordinary_end-e.result in
-    let next : ℕ = c.loop-i.p + (run_end - c.loop-i.i) in
-    let Written : List ℕ → ℕ → ℕ → Type 0 = λ out j p. let a = c.args in Writing a.mode a.s.now a.len a.out.now a.place (a.place + a.size) out j p in
-    let copied : Written c.copy-in-loop-i.new.dst run_end next =
-    let u = c.loop-i.invariant in writing_more u (run_gives _ _ _ c.ordinary_end-e.ensures u.inside _) _ c.copy-in-loop-i.ensures in
-    let escaped : let n = c.put_simple-escapes.result in Written c.put_simple-escapes.new.out (run_end + 2 * n) (next + n) =
-    let w = copied in writing_more w (simple_gives _ _ _ w.inside c.put_simple-escapes.ensures.0 _) _ c.put_simple-escapes.ensures.1 in
-    omega (arith, escaped.inside)
+    let at = goal.at.overflow_mul-i c in
+    omega (arith, (escaped at.After-put_simple-escapes).inside)
 
 pub overflow_add-i : goal.overflow_add-i
 overflow_add-i c =
-    let run_end : ℕ = c.ordinary_end-e.result in
-    let next : ℕ = c.loop-i.p + (run_end - c.loop-i.i) in
-    let Written : List ℕ → ℕ → ℕ → Type 0 = λ out j p. let a = c.args in Writing a.mode a.s.now a.len a.out.now a.place (a.place + a.size) out j p in
-    let copied : Written c.copy-in-loop-i.new.dst run_end next =
-    let u = c.loop-i.invariant in writing_more u (run_gives _ _ _ c.ordinary_end-e.ensures u.inside _) _ c.copy-in-loop-i.ensures in
-    let escaped : let n = c.put_simple-escapes.result in Written c.put_simple-escapes.new.out (run_end + 2 * n) (next + n) =
-    let w = copied in writing_more w (simple_gives _ _ _ w.inside c.put_simple-escapes.ensures.0 _) _ c.put_simple-escapes.ensures.1 in
-    omega (arith, escaped.inside)
+    let at = goal.at.overflow_add-i c in
+    omega (arith, (escaped at.After-put_simple-escapes).inside)
 
 pub loop-i-smaller-then-escapes-ne0 : goal.loop-i-smaller-then-escapes-ne0
 loop-i-smaller-then-escapes-ne0 c =
-    let run_end : ℕ = c.ordinary_end-e.result in
-    let next : ℕ = c.loop-i.p + (run_end - c.loop-i.i) in
-    let Written : List ℕ → ℕ → ℕ → Type 0 = λ out j p. let a = c.args in Writing a.mode a.s.now a.len a.out.now a.place (a.place + a.size) out j p in
-    let copied : Written c.copy-in-loop-i.new.dst run_end next =
-    let u = c.loop-i.invariant in writing_more u (run_gives _ _ _ c.ordinary_end-e.ensures u.inside _) _ c.copy-in-loop-i.ensures in
-    let escaped : let n = c.put_simple-escapes.result in Written c.put_simple-escapes.new.out (run_end + 2 * n) (next + n) =
-    let w = copied in writing_more w (simple_gives _ _ _ w.inside c.put_simple-escapes.ensures.0 _) _ c.put_simple-escapes.ensures.1 in
-    omega (arith, c.if-escapes-ne0.true, escaped.inside, run_ge _ _ _ c.ordinary_end-e.ensures)
+    let at = goal.at.loop-i-smaller-then-escapes-ne0 c in
+    omega (arith, c.if-escapes-ne0.true, (escaped at.After-put_simple-escapes).inside, run_ge _ _ _ c.ordinary_end-e.ensures)
 
 pub loop-i-preserved-then-escapes-ne0 : goal.loop-i-preserved-then-escapes-ne0
 loop-i-preserved-then-escapes-ne0 c =
-    let run_end : ℕ = c.ordinary_end-e.result in
-    let next : ℕ = c.loop-i.p + (run_end - c.loop-i.i) in
-    let Written : List ℕ → ℕ → ℕ → Type 0 = λ out j p. let a = c.args in Writing a.mode a.s.now a.len a.out.now a.place (a.place + a.size) out j p in
-    let copied : Written c.copy-in-loop-i.new.dst run_end next =
-    let u = c.loop-i.invariant in writing_more u (run_gives _ _ _ c.ordinary_end-e.ensures u.inside _) _ c.copy-in-loop-i.ensures in
-    let escaped : let n = c.put_simple-escapes.result in Written c.put_simple-escapes.new.out (run_end + 2 * n) (next + n) =
-    let w = copied in writing_more w (simple_gives _ _ _ w.inside c.put_simple-escapes.ensures.0 _) _ c.put_simple-escapes.ensures.1 in
-    escaped
+    let at = goal.at.loop-i-preserved-then-escapes-ne0 c in
+    escaped at.After-put_simple-escapes
 
 pub step_at-st-requires : goal.step_at-st-requires
 step_at-st-requires c =
-    let run_end : ℕ = c.ordinary_end-e.result in
-    let next : ℕ = c.loop-i.p + (run_end - c.loop-i.i) in
-    let Written : List ℕ → ℕ → ℕ → Type 0 = λ out j p. let a = c.args in Writing a.mode a.s.now a.len a.out.now a.place (a.place + a.size) out j p in
-    let copied : Written c.copy-in-loop-i.new.dst run_end next =
-    let u = c.loop-i.invariant in writing_more u (run_gives _ _ _ c.ordinary_end-e.ensures u.inside _) _ c.copy-in-loop-i.ensures in
-    let escaped : let n = c.put_simple-escapes.result in Written c.put_simple-escapes.new.out (run_end + 2 * n) (next + n) =
-    let w = copied in writing_more w (simple_gives _ _ _ w.inside c.put_simple-escapes.ensures.0 _) _ c.put_simple-escapes.ensures.1 in
-    let stepping : Written c.put_simple-escapes.new.out run_end next = writing_none _ _ _ escaped c.if-escapes-ne0.false in
-    stepping.inside
+    let at = goal.at.step_at-st-requires c in
+    (stepping at.Else-escapes-ne0).inside
 
 pub put-requires : goal.put-requires
 put-requires c =
-    let run_end : ℕ = c.ordinary_end-e.result in
-    let next : ℕ = c.loop-i.p + (run_end - c.loop-i.i) in
-    let Written : List ℕ → ℕ → ℕ → Type 0 = λ out j p. let a = c.args in Writing a.mode a.s.now a.len a.out.now a.place (a.place + a.size) out j p in
-    let copied : Written c.copy-in-loop-i.new.dst run_end next =
-    let u = c.loop-i.invariant in writing_more u (run_gives _ _ _ c.ordinary_end-e.ensures u.inside _) _ c.copy-in-loop-i.ensures in
-    let escaped : let n = c.put_simple-escapes.result in Written c.put_simple-escapes.new.out (run_end + 2 * n) (next + n) =
-    let w = copied in writing_more w (simple_gives _ _ _ w.inside c.put_simple-escapes.ensures.0 _) _ c.put_simple-escapes.ensures.1 in
-    let stepping : Written c.put_simple-escapes.new.out run_end next = writing_none _ _ _ escaped c.if-escapes-ne0.false in
-    let v = stepping in
+    let at = goal.at.put-requires c in
+    let v = (stepping at.Else-escapes-ne0) in
     (step_four _ _ _ c.step_at-st.ensures c.in-Go.is, writing_room v (step_gives _ _ _ c.step_at-st.ensures c.in-Go.is v.inside))
 
 pub overflow_add-p-in-Go : goal.overflow_add-p-in-Go
 overflow_add-p-in-Go c =
-    let run_end : ℕ = c.ordinary_end-e.result in
-    let next : ℕ = c.loop-i.p + (run_end - c.loop-i.i) in
-    let Written : List ℕ → ℕ → ℕ → Type 0 = λ out j p. let a = c.args in Writing a.mode a.s.now a.len a.out.now a.place (a.place + a.size) out j p in
-    let copied : Written c.copy-in-loop-i.new.dst run_end next =
-    let u = c.loop-i.invariant in writing_more u (run_gives _ _ _ c.ordinary_end-e.ensures u.inside _) _ c.copy-in-loop-i.ensures in
-    let escaped : let n = c.put_simple-escapes.result in Written c.put_simple-escapes.new.out (run_end + 2 * n) (next + n) =
-    let w = copied in writing_more w (simple_gives _ _ _ w.inside c.put_simple-escapes.ensures.0 _) _ c.put_simple-escapes.ensures.1 in
-    let stepping : Written c.put_simple-escapes.new.out run_end next = writing_none _ _ _ escaped c.if-escapes-ne0.false in
-    let stepped : Written c.put.new.out (run_end + c.in-Go.used) (next + c.in-Go.n) =
-    let v = stepping in writing_more v (step_gives _ _ _ c.step_at-st.ensures c.in-Go.is v.inside) _ c.put.ensures in
-    omega (arith, stepped.store.room, c.well_formed)
+    let at = goal.at.overflow_add-p-in-Go c in
+    omega (arith, (stepped at.After-put).store.room, c.well_formed)
 
 pub overflow_add-i-in-Go : goal.overflow_add-i-in-Go
 overflow_add-i-in-Go c =
-    let run_end : ℕ = c.ordinary_end-e.result in
-    let next : ℕ = c.loop-i.p + (run_end - c.loop-i.i) in
-    let Written : List ℕ → ℕ → ℕ → Type 0 = λ out j p. let a = c.args in Writing a.mode a.s.now a.len a.out.now a.place (a.place + a.size) out j p in
-    let copied : Written c.copy-in-loop-i.new.dst run_end next =
-    let u = c.loop-i.invariant in writing_more u (run_gives _ _ _ c.ordinary_end-e.ensures u.inside _) _ c.copy-in-loop-i.ensures in
-    let escaped : let n = c.put_simple-escapes.result in Written c.put_simple-escapes.new.out (run_end + 2 * n) (next + n) =
-    let w = copied in writing_more w (simple_gives _ _ _ w.inside c.put_simple-escapes.ensures.0 _) _ c.put_simple-escapes.ensures.1 in
-    let stepping : Written c.put_simple-escapes.new.out run_end next = writing_none _ _ _ escaped c.if-escapes-ne0.false in
-    let stepped : Written c.put.new.out (run_end + c.in-Go.used) (next + c.in-Go.n) =
-    let v = stepping in writing_more v (step_gives _ _ _ c.step_at-st.ensures c.in-Go.is v.inside) _ c.put.ensures in
-    omega (arith, stepped.inside, c.well_formed)
+    let at = goal.at.overflow_add-i-in-Go c in
+    omega (arith, (stepped at.After-put).inside, c.well_formed)
 
 pub loop-i-smaller : goal.loop-i-smaller
 loop-i-smaller c =
-    let run_end : ℕ = c.ordinary_end-e.result in
-    let next : ℕ = c.loop-i.p + (run_end - c.loop-i.i) in
-    let Written : List ℕ → ℕ → ℕ → Type 0 = λ out j p. let a = c.args in Writing a.mode a.s.now a.len a.out.now a.place (a.place + a.size) out j p in
-    let copied : Written c.copy-in-loop-i.new.dst run_end next =
-    let u = c.loop-i.invariant in writing_more u (run_gives _ _ _ c.ordinary_end-e.ensures u.inside _) _ c.copy-in-loop-i.ensures in
-    let escaped : let n = c.put_simple-escapes.result in Written c.put_simple-escapes.new.out (run_end + 2 * n) (next + n) =
-    let w = copied in writing_more w (simple_gives _ _ _ w.inside c.put_simple-escapes.ensures.0 _) _ c.put_simple-escapes.ensures.1 in
-    let stepping : Written c.put_simple-escapes.new.out run_end next = writing_none _ _ _ escaped c.if-escapes-ne0.false in
-    step_less _ _ _ c.step_at-st.ensures c.in-Go.is stepping.inside _
+    let at = goal.at.loop-i-smaller c in
+    step_less _ _ _ c.step_at-st.ensures c.in-Go.is (stepping at.Else-escapes-ne0).inside _
     (run_ge _ _ _ c.ordinary_end-e.ensures)
 
 pub loop-i-preserved : goal.loop-i-preserved
 loop-i-preserved c =
-    let run_end : ℕ = c.ordinary_end-e.result in
-    let next : ℕ = c.loop-i.p + (run_end - c.loop-i.i) in
-    let Written : List ℕ → ℕ → ℕ → Type 0 = λ out j p. let a = c.args in Writing a.mode a.s.now a.len a.out.now a.place (a.place + a.size) out j p in
-    let copied : Written c.copy-in-loop-i.new.dst run_end next =
-    let u = c.loop-i.invariant in writing_more u (run_gives _ _ _ c.ordinary_end-e.ensures u.inside _) _ c.copy-in-loop-i.ensures in
-    let escaped : let n = c.put_simple-escapes.result in Written c.put_simple-escapes.new.out (run_end + 2 * n) (next + n) =
-    let w = copied in writing_more w (simple_gives _ _ _ w.inside c.put_simple-escapes.ensures.0 _) _ c.put_simple-escapes.ensures.1 in
-    let stepping : Written c.put_simple-escapes.new.out run_end next = writing_none _ _ _ escaped c.if-escapes-ne0.false in
-    let stepped : Written c.put.new.out (run_end + c.in-Go.used) (next + c.in-Go.n) =
-    let v = stepping in writing_more v (step_gives _ _ _ c.step_at-st.ensures c.in-Go.is v.inside) _ c.put.ensures in
-    stepped
+    let at = goal.at.loop-i-preserved c in
+    stepped at.After-put
 
 pub shape_of-out-in-Stop : goal.shape_of-out-in-Stop
 shape_of-out-in-Stop c =
-    let run_end : ℕ = c.ordinary_end-e.result in
-    let next : ℕ = c.loop-i.p + (run_end - c.loop-i.i) in
-    let Written : List ℕ → ℕ → ℕ → Type 0 = λ out j p. let a = c.args in Writing a.mode a.s.now a.len a.out.now a.place (a.place + a.size) out j p in
-    let copied : Written c.copy-in-loop-i.new.dst run_end next =
-    let u = c.loop-i.invariant in writing_more u (run_gives _ _ _ c.ordinary_end-e.ensures u.inside _) _ c.copy-in-loop-i.ensures in
-    let escaped : let n = c.put_simple-escapes.result in Written c.put_simple-escapes.new.out (run_end + 2 * n) (next + n) =
-    let w = copied in writing_more w (simple_gives _ _ _ w.inside c.put_simple-escapes.ensures.0 _) _ c.put_simple-escapes.ensures.1 in
-    let stepping : Written c.put_simple-escapes.new.out run_end next = writing_none _ _ _ escaped c.if-escapes-ne0.false in
-    stepping.store.same
+    let at = goal.at.shape_of-out-in-Stop c in
+    (stepping at.Else-escapes-ne0).store.same
 
 pub returns-in-Stop : goal.returns-in-Stop
 returns-in-Stop c =
-    let run_end : ℕ = c.ordinary_end-e.result in
-    let next : ℕ = c.loop-i.p + (run_end - c.loop-i.i) in
-    let Written : List ℕ → ℕ → ℕ → Type 0 = λ out j p. let a = c.args in Writing a.mode a.s.now a.len a.out.now a.place (a.place + a.size) out j p in
-    let copied : Written c.copy-in-loop-i.new.dst run_end next =
-    let u = c.loop-i.invariant in writing_more u (run_gives _ _ _ c.ordinary_end-e.ensures u.inside _) _ c.copy-in-loop-i.ensures in
-    let escaped : let n = c.put_simple-escapes.result in Written c.put_simple-escapes.new.out (run_end + 2 * n) (next + n) =
-    let w = copied in writing_more w (simple_gives _ _ _ w.inside c.put_simple-escapes.ensures.0 _) _ c.put_simple-escapes.ensures.1 in
-    let stepping : Written c.put_simple-escapes.new.out run_end next = writing_none _ _ _ escaped c.if-escapes-ne0.false in
-    search (writing_stop stepping)
+    let at = goal.at.returns-in-Stop c in
+    search (writing_stop (stepping at.Else-escapes-ne0))

@@ -6,7 +6,14 @@ use lib.ListN.{length}
 use borrow.Author.Tests.{lt-leb, le-leb, ltb-true, ltb-false}
 use Rattle.base.proofs.Tests.{and-false, or_case, or_left, or_right}
 use Rattle.suggest.specs.Calls.{longest_run, good_run}
+use Rattle.suggest.proofs.call.good_run.Goals.{Else-run}
 use Rattle.suggest.proofs.call.good_run.Goals as goal
+
+-- the length is one that is taken
+good_length : (c : Else-run) → let n = length c.args.run.now in not (eqb n 0) && leb n longest_run ≡ true
+good_length c =
+    let n = length c.args.run.now in let l = ltb-false longest_run n (or_right (eqb n 0) (ltb longest_run n) c.if-run.false) in rw
+    (or_left (eqb n 0) (ltb longest_run n) c.if-run.false, le-leb n longest_run l)
 
 pub returns-then-run : goal.returns-then-run
 unfolding good_run
@@ -16,15 +23,11 @@ returns-then-run c = let n = length c.args.run.now in
 pub returns-in-WellFormed : goal.returns-in-WellFormed
 unfolding good_run
 returns-in-WellFormed c =
-    let good_length : let n = length c.args.run.now in not (eqb n 0) && leb n longest_run ≡ true =
-    let n = length c.args.run.now in let l = ltb-false longest_run n (or_right (eqb n 0) (ltb longest_run n) c.if-run.false) in rw
-    (or_left (eqb n 0) (ltb longest_run n) c.if-run.false, le-leb n longest_run l) in
-    rw (good_length, ← c.check.ensures.same, c.in-WellFormed.is)
+    let at = goal.at.returns-in-WellFormed c in
+    rw ((good_length at.Else-run), ← c.check.ensures.same, c.in-WellFormed.is)
 
 pub returns-in-IllFormed : goal.returns-in-IllFormed
 unfolding good_run
 returns-in-IllFormed c =
-    let good_length : let n = length c.args.run.now in not (eqb n 0) && leb n longest_run ≡ true =
-    let n = length c.args.run.now in let l = ltb-false longest_run n (or_right (eqb n 0) (ltb longest_run n) c.if-run.false) in rw
-    (or_left (eqb n 0) (ltb longest_run n) c.if-run.false, le-leb n longest_run l) in
-    rw (good_length, ← c.check.ensures.same, c.in-IllFormed.is)
+    let at = goal.at.returns-in-IllFormed c in
+    rw ((good_length at.Else-run), ← c.check.ensures.same, c.in-IllFormed.is)

@@ -4,7 +4,12 @@ use native.Mathlib.Omega.{arith}
 use lib.Seq.{length-take-le, take-length}
 use Rattle.suggest.specs.Helpers.{TailSeen}
 use Rattle.suggest.proofs.Seams.{seam_seen, seam_no_sign, front_cut}
+use Rattle.suggest.proofs.pieces.see_around.Goals.{Else-end-text}
 use Rattle.suggest.proofs.pieces.see_around.Goals as goal
+
+-- past the first test something stands behind the piece
+behind : (c : Else-end-text) → let a = c.args in TailSeen a.text.now a.a.end a.a.tail
+behind c = c.requires.behind (omega (arith, c.if-end-text.false, c.requires.inside))
 
 pub slice_bounds-see_front-end : goal.slice_bounds-see_front-end
 slice_bounds-see_front-end c = sym (length-take-le _ _ c.requires.inside)
@@ -20,13 +25,14 @@ returns-then-is_minus_zero c = c.see.ensures
 
 pub join-requires : goal.join-requires
 join-requires c =
-    let behind : let a = c.args in TailSeen a.text.now a.a.end a.a.tail = c.requires.behind (omega (arith, c.if-end-text.false, c.requires.inside)) in
-    let t = behind in rw t.known (seam_no_sign t.seam)
+    let at = goal.at.join-requires c in
+    let t = (behind at.Else-end-text) in
+    rw t.known (seam_no_sign t.seam)
 
 pub returns : goal.returns
 returns c =
-    let behind : let a = c.args in TailSeen a.text.now a.a.end a.a.tail = c.requires.behind (omega (arith, c.if-end-text.false, c.requires.inside)) in
+    let at = goal.at.returns c in
     let f = c.see_front-front.ensures in
-    let t = behind in
+    let t = (behind at.Else-end-text) in
     c.join.ensures ∙ rw (c.is_minus-neg.ensures, f, t.known)
     (seam_seen t.seam (λ n e. c.is_minus_zero.ensures c.if-is_minus_zero.false (c.is_minus-neg.ensures ∙ n) (f ∙ e)))

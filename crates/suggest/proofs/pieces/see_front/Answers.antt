@@ -7,7 +7,12 @@ use Rattle.base.proofs.Reaches.{rest_is}
 use Rattle.base.proofs.Tests.{or_left, or_right}
 use Rattle.suggest.specs.Helpers.{HeadSeen}
 use Rattle.suggest.proofs.Seams.{seam_seen, seam_no_sign}
+use Rattle.suggest.proofs.pieces.see_front.Goals.{Else-start-is_minus_zero}
 use Rattle.suggest.proofs.pieces.see_front.Goals as goal
+
+-- past the test the text is cut
+cut : (c : Else-start-is_minus_zero) → let a = c.args in HeadSeen a.text.now a.start a.head
+cut c = c.requires.before (pos_of_ne-zero (eqb-false _ _ (or_left (eqb c.args.start 0) c.is_minus_zero.result c.if-start-is_minus_zero.false)))
 
 pub returns-then-start-is_minus_zero : goal.returns-then-start-is_minus_zero
 returns-then-start-is_minus_zero c = c.see.ensures
@@ -20,15 +25,13 @@ slice_bounds-see-start c = c.requires.inside
 
 pub join-requires : goal.join-requires
 join-requires c =
-    let cut : let a = c.args in HeadSeen a.text.now a.start a.head =
-    c.requires.before (pos_of_ne-zero (eqb-false _ _ (or_left (eqb c.args.start 0) c.is_minus_zero.result c.if-start-is_minus_zero.false))) in
-    rw (rw rest_is at c.see-2.ensures) (seam_no_sign cut.seam)
+    let at = goal.at.join-requires c in
+    rw (rw rest_is at c.see-2.ensures) (seam_no_sign (cut at.Else-start-is_minus_zero).seam)
 
 pub returns : goal.returns
 returns c =
-    let cut : let a = c.args in HeadSeen a.text.now a.start a.head =
-    c.requires.before (pos_of_ne-zero (eqb-false _ _ (or_left (eqb c.args.start 0) c.is_minus_zero.result c.if-start-is_minus_zero.false))) in
-    let h = cut in
+    let at = goal.at.returns c in
+    let h = (cut at.Else-start-is_minus_zero) in
     let w = or_right (eqb c.args.start 0) c.is_minus_zero.result c.if-start-is_minus_zero.false in
     c.join.ensures ∙ rw (c.is_minus-neg.ensures, rw rest_is at c.see-2.ensures, h.known)
     (seam_seen h.seam (λ n e. c.is_minus_zero.ensures w (c.is_minus-neg.ensures ∙ n) (h.known ∙ e)))

@@ -5,7 +5,12 @@ use lib.ListN.{take}
 use lib.Seq.{length-take-le}
 use Rattle.token.specs.declared.place.Place.{Place}
 use Rattle.token.proofs.Places.{Line, place_cut, place_steppable, walk_cut, walk_line, walk_newline}
+use Rattle.token.proofs.place.walk.Goals.{After-find-end}
 use Rattle.token.proofs.place.walk.Goals as goal
+
+-- the line from the place on ends where `find` says
+line : (c : After-find-end) → let a = c.args in Line (take a.to a.text.now) c.loop-s.place c.find-end.result
+line c = walk_line _ _ _ c.loop-s.invariant _ c.find-end.ensures
 
 pub slice_bounds-s-end : goal.slice_bounds-s-end
 slice_bounds-s-end c = sym (length-take-le _ _ c.requires.inside)
@@ -21,33 +26,33 @@ returns-then-to-at c = let w = c.loop-s.invariant in
 
 pub overflow_sub-column : goal.overflow_sub-column
 overflow_sub-column c =
-    let line : let a = c.args in Line (take a.to a.text.now) c.loop-s.place c.find-end.result = walk_line _ _ _ c.loop-s.invariant _ c.find-end.ensures in
-    line.later
+    let at = goal.at.overflow_sub-column c in
+    (line at.After-find-end).later
 
 pub overflow_add-column : goal.overflow_add-column
 overflow_add-column c =
-    let line : let a = c.args in Line (take a.to a.text.now) c.loop-s.place c.find-end.result = walk_line _ _ _ c.loop-s.invariant _ c.find-end.ensures in
-    let l = line in
+    let at = goal.at.overflow_add-column c in
+    let l = (line at.After-find-end) in
     record { fits = omega (arith, l.column, l.inside, c.loop-s.invariant.short) }
 
 pub returns-then-to-end : goal.returns-then-to-end
 returns-then-to-end c =
-    let line : let a = c.args in Line (take a.to a.text.now) c.loop-s.place c.find-end.result = walk_line _ _ _ c.loop-s.invariant _ c.find-end.ensures in
+    let at = goal.at.returns-then-to-end c in
     let text = c.args.text.now in
     let to = c.args.to in
-    let z : c.find-end.result ≡ to = omega (arith, line.inside, c.if-to-end.true, length-take-le to text c.requires.inside) in
-    line.end ∙ rw z (place_cut text to to (omega arith))
+    let z : c.find-end.result ≡ to = omega (arith, (line at.After-find-end).inside, c.if-to-end.true, length-take-le to text c.requires.inside) in
+    (line at.After-find-end).end ∙ rw z (place_cut text to to (omega arith))
 
 pub step-place-requires : goal.step-place-requires
 step-place-requires c =
-    let line : let a = c.args in Line (take a.to a.text.now) c.loop-s.place c.find-end.result = walk_line _ _ _ c.loop-s.invariant _ c.find-end.ensures in
+    let at = goal.at.step-place-requires c in
     let w = c.loop-s.invariant in
-    place_steppable _ _ _ line.end (omega (arith, c.if-to-end.false, w.inside)) w.short
+    place_steppable _ _ _ (line at.After-find-end).end (omega (arith, c.if-to-end.false, w.inside)) w.short
 
 pub loop-s-smaller : goal.loop-s-smaller
 loop-s-smaller c =
-    let line : let a = c.args in Line (take a.to a.text.now) c.loop-s.place c.find-end.result = walk_line _ _ _ c.loop-s.invariant _ c.find-end.ensures in
-    omega (arith, ap (λ (p : Place). p.offset) c.step-place.ensures, line.later, c.if-to-end.false)
+    let at = goal.at.loop-s-smaller c in
+    omega (arith, ap (λ (p : Place). p.offset) c.step-place.ensures, (line at.After-find-end).later, c.if-to-end.false)
 
 pub loop-s-preserved : goal.loop-s-preserved
 loop-s-preserved c = rw c.step-place.ensures (walk_newline _ _ _ c.loop-s.invariant _ c.find-end.ensures c.if-to-end.false)

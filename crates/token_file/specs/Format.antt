@@ -94,7 +94,7 @@ file_count file = number_at file 5 4
 unfoldable pub file_rows : Layout → List ℕ → List Row
 file_rows y file = bytes_rows y (file_count file) (drop header_width file)
 
--- a file's frame is right: refusal 7 is "under 9 bytes, wrong fileMark or version, or length other than 9 + 16 × count"
+-- a file's frame is right: refusal 7 is "under 9 bytes, wrong mark or version, or length other than 9 + 16 × count"
 unfoldable pub framed : Layout → List ℕ → Bool
 framed y file =
     leb header_width (length file)

@@ -17,7 +17,7 @@ fn natural_at(records: &[i64], at: usize) -> bool
     0 <= z
 }
 
-// The field_at at `at`, or 0 where it is below 0.
+// The field at `at`, or 0 where it is below 0.
 fn magnitude_at(records: &[i64], at: usize) -> usize
     requires { at < length records.now }
     ensures { result ≡ natural_of (field_at records.now at) }
@@ -29,7 +29,7 @@ fn magnitude_at(records: &[i64], at: usize) -> usize
     z as usize
 }
 
-// Whether no kept field_at of the record at `at` is below 0.
+// Whether no kept field of the record at `at` is below 0.
 fn natural_row(records: &[i64], at: usize) -> bool
     requires { at + record_width ≤ length records.now }
     ensures { result ≡ natural_row (drop at records.now) }

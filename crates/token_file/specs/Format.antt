@@ -1,4 +1,4 @@
--- The bytes of a token file: document 01, "file_mark `OFT`, 16-bit version 1, 32-bit count, then per token kind and reason (8 bits each), start, end,
+-- The bytes of a token file: document 01, "mark `OFT`, 16-bit version 1, 32-bit count, then per token kind and reason (8 bits each), start, end,
 -- line (32) and column (16), little-endian".
 use Rattle.std.specs.Prelude.{Bool, ◌&&◌, List, [], ◌∷◌, ◌++◌, ℕ, zero, suc, ◌+◌, ◌*◌, ◌/◌, ◌%◌, leb, eqb, length, take, drop}
 use Rattle.base.specs.Characters.{ascii}
@@ -30,11 +30,11 @@ version1 = record { version = 1; kind = 1; reason = 1; start = 4; end = 4; line 
 unfoldable pub row_width : Layout → ℕ
 row_width y = y.kind + y.reason + y.start + y.end + y.line + y.column
 
--- the file_mark `OFT`
+-- the mark `OFT`
 abbrev pub file_mark : List ℕ
 file_mark = ascii "OFT"
 
--- file_mark, version and count
+-- mark, version and count
 abbrev pub header_width : ℕ
 header_width = 9
 

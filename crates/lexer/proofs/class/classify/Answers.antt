@@ -6,7 +6,6 @@ use Rattle.base.specs.Choice.{pick}
 use Rattle.base.specs.Classes.{is_digit, is_ident_start}
 use Rattle.lexer.specs.Lexer.{class_of, class_at}
 use Rattle.lexer.specs.declared.class.Class.TheVariants as C
-use borrow.Author.Rules.{rules}
 use Rattle.lexer.proofs.class.classify.Goals.{In_default}
 use Rattle.lexer.proofs.class.classify.Goals as goal
 
@@ -21,21 +20,9 @@ others c =
     (rw (ne_eqb _ _ r.0.0.0.0.0.1, ne_eqb _ _ r.0.0.0.0.1, ne_eqb _ _ r.0.0.0.1, ne_eqb _ _ r.0.0.1)
     (rw (ne_eqb _ _ r.0.1, ne_eqb _ _ (λ e. r.1 (inl e)), ne_eqb _ _ (λ e. r.1 (inr e)))))))
 
-pub peek-a-requires : goal.peek-a-requires
-unfolding class_at class_of
-peek-a-requires c = search rules
-
-pub peek-requires : goal.peek-requires
-unfolding class_at class_of
-peek-requires c = search rules
-
 pub returns-then-peek-eq47 : goal.returns-then-peek-eq47
 unfolding class_at class_of
 returns-then-peek-eq47 c = rw (← c.peek-a.ensures, c.in-47.is, ← c.peek.ensures, c.if-peek-eq47.true)
-
-pub peek-requires-in-47 : goal.peek-requires-in-47
-unfolding class_at class_of
-peek-requires-in-47 c = search rules
 
 -- a slash, and what follows it
 pub returns-then-peek-eq42 : goal.returns-then-peek-eq42
@@ -44,41 +31,21 @@ returns-then-peek-eq42 c = let p = c.peek.ensures in
     rw (← c.peek-a.ensures, c.in-47.is, ← p, ne_eqb _ _ c.if-peek-eq47.false)
     (rw (p ∙ sym c.peek-in-47.ensures, c.if-peek-eq42.true))
 
-pub peek-requires-in-34 : goal.peek-requires-in-34
-unfolding class_at class_of
-peek-requires-in-34 c = search rules
-
-pub peek-requires-in-34-2 : goal.peek-requires-in-34-2
-unfolding class_at class_of
-peek-requires-in-34-2 c = search rules
-
 -- a quote, and whether two more follow it
 pub returns-then-peek : goal.returns-then-peek
 unfolding class_at class_of
 returns-then-peek c = rw (← c.peek-a.ensures, c.in-34.is, ← c.peek-in-34.ensures, ← c.peek-in-34-2.ensures, c.if-peek.true)
-
-pub peek-requires-in-98 : goal.peek-requires-in-98
-unfolding class_at class_of
-peek-requires-in-98 c = search rules
 
 -- a `b`, and what follows it
 pub returns-then-peek-eq34 : goal.returns-then-peek-eq34
 unfolding class_at class_of
 returns-then-peek-eq34 c = rw (← c.peek-a.ensures, c.in-98.is, ← c.peek-in-98.ensures, c.if-peek-eq34.true)
 
-pub is_digit-requires : goal.is_digit-requires
-unfolding class_at class_of
-is_digit-requires c = search rules
-
 pub returns-then-is_digit : goal.returns-then-is_digit
 unfolding class_at class_of
 returns-then-is_digit c =
     let at = goal.at.returns-then-is_digit c in
     rw ((others at.In_default), ← c.is_digit.ensures, c.if-is_digit.true)
-
-pub is_ident_start-requires : goal.is_ident_start-requires
-unfolding class_at class_of
-is_ident_start-requires c = search rules
 
 -- none of the keys
 pub returns-then-is_ident_start : goal.returns-then-is_ident_start

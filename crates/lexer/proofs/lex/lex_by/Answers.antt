@@ -1,95 +1,14 @@
 -- `lex_by` is `lex_by`: each arm calls the lexer of its class. Assumes nothing.
 use Rattle.lexer.specs.Lexer.{lex_by}
 use Rattle.lexer.proofs.FirstBytes.{triple_long, quote_first}
-use borrow.Author.Rules.{rules}
 use Rattle.lexer.proofs.lex.lex_by.Goals as goal
-
-pub enum_told-1 : goal.enum_told-1
-unfolding lex_by
-enum_told-1 c = search rules
-
-pub bare-requires : goal.bare-requires
-unfolding lex_by
-bare-requires c = search rules
-
-pub enum_told-in-LineComment : goal.enum_told-in-LineComment
-unfolding lex_by
-enum_told-in-LineComment c = search rules
-
-pub lex_line_comment-requires : goal.lex_line_comment-requires
-unfolding lex_by
-lex_line_comment-requires c = search rules
-
-pub enum_told-in-BlockComment : goal.enum_told-in-BlockComment
-unfolding lex_by
-enum_told-in-BlockComment c = search rules
-
-pub lex_block_comment-requires : goal.lex_block_comment-requires
-unfolding lex_by
-lex_block_comment-requires c = search rules
-
-pub enum_told-in-Triple : goal.enum_told-in-Triple
-unfolding lex_by
-enum_told-in-Triple c = search rules
 
 pub lex_triple_string-requires : goal.lex_triple_string-requires
 unfolding lex_by
 lex_triple_string-requires c = search triple_long
 
-pub enum_told-in-Quote : goal.enum_told-in-Quote
-unfolding lex_by
-enum_told-in-Quote c = search rules
-
 pub lex_string-requires : goal.lex_string-requires
 lex_string-requires c = (c.requires.0, c.requires.2 (quote_first c.args.s.now c.args.class c.requires.1 c.in-Quote.is))
-
-pub enum_told-in-Bytes : goal.enum_told-in-Bytes
-unfolding lex_by
-enum_told-in-Bytes c = search rules
-
-pub lex_bytes-requires : goal.lex_bytes-requires
-unfolding lex_by
-lex_bytes-requires c = search rules
-
-pub enum_known-class : goal.enum_known-class
-unfolding lex_by
-enum_known-class c = search rules
-
-pub whole-requires : goal.whole-requires
-unfolding lex_by
-whole-requires c = search rules
-
-pub enum_told-in-Directive : goal.enum_told-in-Directive
-unfolding lex_by
-enum_told-in-Directive c = search rules
-
-pub lex_directive-requires : goal.lex_directive-requires
-unfolding lex_by
-lex_directive-requires c = search rules
-
-pub enum_told-in-Number : goal.enum_told-in-Number
-unfolding lex_by
-enum_told-in-Number c = search rules
-
-pub lex_number-requires : goal.lex_number-requires
-unfolding lex_by
-lex_number-requires c = search rules
-
-pub enum_told-in-Name : goal.enum_told-in-Name
-unfolding lex_by
-enum_told-in-Name c = search rules
-
-pub lex_ident-requires : goal.lex_ident-requires
-unfolding lex_by
-lex_ident-requires c = search rules
-
-pub enum_told-in-Other : goal.enum_told-in-Other
-unfolding lex_by
-enum_told-in-Other c = search rules
-
-pub lex_other-requires : goal.lex_other-requires
-unfolding lex_by
-lex_other-requires c = search rules
 
 pub returns-in-Newline : goal.returns-in-Newline
 unfolding lex_by

@@ -4,10 +4,6 @@ use Rattle.scan.specs.Run.{in_run}
 use Rattle.lexer.specs.Token.{start_at}
 use Rattle.lexer.proofs.next.skip_spaces.Goals as goal
 
-pub reach_run-requires : goal.reach_run-requires
-unfolding start_at in_run
-reach_run-requires c = search rules
-
 pub returns : goal.returns
 unfolding start_at in_run
 returns c = search rules

@@ -1,11 +1,6 @@
 -- `string_size` chooses as the definition does. Assumes nothing.
 use Rattle.lexer.specs.Token.{string_size}
-use borrow.Author.Rules.{rules}
 use Rattle.lexer.proofs.next.string_size.Goals as goal
-
-pub is_string-requires : goal.is_string-requires
-unfolding string_size
-is_string-requires c = search rules
 
 pub returns-then-is_string : goal.returns-then-is_string
 unfolding string_size

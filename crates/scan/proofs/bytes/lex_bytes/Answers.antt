@@ -1,53 +1,20 @@
 -- `lex_bytes` meets its contract: each arm is a clause of the definition; where the literal stops is in the text. Assumes nothing.
 use native.Mathlib.Omega.{arith}
-use borrow.Author.Rules.{rules}
 use Rattle.scan.specs.Bytes.{lex_bytes}
 use Rattle.scan.proofs.Stops.{stands}
 use Rattle.scan.proofs.bytes.lex_bytes.Goals as goal
-
-pub bytes_stop-requires : goal.bytes_stop-requires
-unfolding lex_bytes
-bytes_stop-requires c = search rules
-
-pub enum_known-n : goal.enum_known-n
-unfolding lex_bytes
-enum_known-n c = search rules
 
 pub overflow_add-n : goal.overflow_add-n
 unfolding lex_bytes
 overflow_add-n c = omega (arith, stands c.args.limit c.args.s.now _ _ c.bytes_stop.ensures c.in-Over.is)
 
-pub char_end-requires : goal.char_end-requires
-unfolding lex_bytes
-char_end-requires c = search rules
-
-pub illegal-requires : goal.illegal-requires
-unfolding lex_bytes
-illegal-requires c = search rules
-
-pub enum_known-n-in-Closed-1 : goal.enum_known-n-in-Closed-1
-unfolding lex_bytes
-enum_known-n-in-Closed-1 c = search rules
-
 pub overflow_add-n-in-Closed : goal.overflow_add-n-in-Closed
 unfolding lex_bytes
 overflow_add-n-in-Closed c = omega (arith, (stands c.args.limit c.args.s.now _ _ c.bytes_stop.ensures c.in-Closed.is).0)
 
-pub bytes_value-requires : goal.bytes_value-requires
-unfolding lex_bytes
-bytes_value-requires c = search rules
-
-pub enum_known-n-in-Newline-1 : goal.enum_known-n-in-Newline-1
-unfolding lex_bytes
-enum_known-n-in-Newline-1 c = search rules
-
 pub open_bytes-requires : goal.open_bytes-requires
 unfolding lex_bytes
 open_bytes-requires c = omega (arith, (stands c.args.limit c.args.s.now _ _ c.bytes_stop.ensures c.in-Newline.is).0)
-
-pub enum_known-n-in-Open-1 : goal.enum_known-n-in-Open-1
-unfolding lex_bytes
-enum_known-n-in-Open-1 c = search rules
 
 pub open_bytes-requires-in-Open : goal.open_bytes-requires-in-Open
 unfolding lex_bytes

@@ -9,21 +9,9 @@ pub reach_long-end-requires : goal.reach_long-end-requires
 unfolding lex_block_comment body_end by_kind
 reach_long-end-requires c = search rules
 
-pub overflow_add-end : goal.overflow_add-end
-unfolding lex_block_comment body_end by_kind
-overflow_add-end c = search rules
-
-pub whole-requires : goal.whole-requires
-unfolding lex_block_comment body_end by_kind
-whole-requires c = search rules
-
 pub returns-then-end-s : goal.returns-then-end-s
 unfolding lex_block_comment body_end by_kind
 returns-then-end-s c = rw (← c.reach_long-end.ensures, lt-ltb _ _ c.if-end-s.true) c.whole.ensures
-
-pub open_comment-requires : goal.open_comment-requires
-unfolding lex_block_comment body_end by_kind
-open_comment-requires c = search rules
 
 pub returns : goal.returns
 unfolding lex_block_comment body_end by_kind

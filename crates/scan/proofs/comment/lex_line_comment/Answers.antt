@@ -8,10 +8,6 @@ pub reach_long-requires : goal.reach_long-requires
 unfolding lex_line_comment by_kind
 reach_long-requires c = search rules
 
-pub whole-requires : goal.whole-requires
-unfolding lex_line_comment by_kind
-whole-requires c = search rules
-
 pub returns : goal.returns
 unfolding lex_line_comment by_kind
 returns c = rw (← c.reach_long.ensures) c.whole.ensures

@@ -1,18 +1,9 @@
 -- `lex_directive` meets its contract: the name's run begins after the `@` and ends in the text. Assumes nothing.
 use borrow.Author.Tests.{ne_eqb}
-use borrow.Author.Rules.{rules}
 use Rattle.base.proofs.Reaches.{reach_le, reach_ge}
 use Rattle.scan.specs.Name.{lex_directive}
 use Rattle.scan.specs.Run.{in_run}
 use Rattle.scan.proofs.name.lex_directive.Goals as goal
-
-pub reach_run-n-requires : goal.reach_run-n-requires
-unfolding lex_directive
-reach_run-n-requires c = search rules
-
-pub illegal-requires : goal.illegal-requires
-unfolding lex_directive
-illegal-requires c = search rules
 
 pub returns-then-n-eq1 : goal.returns-then-n-eq1
 unfolding lex_directive

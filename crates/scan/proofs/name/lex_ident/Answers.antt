@@ -1,28 +1,15 @@
 -- `lex_ident` meets its contract: the run of a name, and what the name is. Assumes nothing.
 use mathlib.Core.Path.{sym}
 use Prim.Native.Nat.{zero-le}
-use borrow.Author.Rules.{rules}
 use lib.Seq.{length-take-le}
 use Rattle.base.proofs.Reaches.{reach_le}
 use Rattle.scan.specs.Name.{lex_ident}
 use Rattle.scan.specs.Run.{in_run}
 use Rattle.scan.proofs.name.lex_ident.Goals as goal
 
-pub reach_run-n-requires : goal.reach_run-n-requires
-unfolding lex_ident
-reach_run-n-requires c = search rules
-
 pub slice_bounds-name_kind-end : goal.slice_bounds-name_kind-end
 unfolding lex_ident
 slice_bounds-name_kind-end c = sym (length-take-le _ _ (rw c.reach_run-n.ensures (reach_le (in_run _) _ 0 zero-le)))
-
-pub name_kind-requires : goal.name_kind-requires
-unfolding lex_ident
-name_kind-requires c = search rules
-
-pub whole-requires : goal.whole-requires
-unfolding lex_ident
-whole-requires c = search rules
 
 pub returns : goal.returns
 unfolding lex_ident

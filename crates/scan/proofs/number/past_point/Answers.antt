@@ -1,20 +1,7 @@
 -- `past_point` meets its contract: each return is a case of the definition. Assumes nothing.
 use borrow.Author.Tests.{ne_eqb}
-use borrow.Author.Rules.{rules}
 use Rattle.scan.specs.Number.{past_point}
 use Rattle.scan.proofs.number.past_point.Goals as goal
-
-pub peek-requires : goal.peek-requires
-unfolding past_point
-peek-requires c = search rules
-
-pub overflow_add-i : goal.overflow_add-i
-unfolding past_point
-overflow_add-i c = search rules
-
-pub reach_run-requires : goal.reach_run-requires
-unfolding past_point
-reach_run-requires c = search rules
 
 pub returns-then-peek-eq46 : goal.returns-then-peek-eq46
 unfolding past_point

@@ -4,10 +4,6 @@ use Rattle.scan.specs.Number.{value_end}
 use Rattle.scan.proofs.Goes.{goes_point}
 use Rattle.scan.proofs.number.value_end.Goals as goal
 
-pub past_point-requires : goal.past_point-requires
-unfolding value_end
-past_point-requires c = search rules
-
 pub past_exponent-requires : goal.past_exponent-requires
 unfolding value_end
 past_exponent-requires c = rw c.past_point.ensures ((goes_point _ _).le c.requires)

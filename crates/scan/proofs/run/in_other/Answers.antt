@@ -1,33 +1,8 @@
 -- `in_other` meets its contract: each arm is a clause of the definition, but for the last, which no such run reaches. Assumes nothing.
-use borrow.Author.Rules.{rules}
 use Rattle.base.proofs.Tests.{true_false}
 use Rattle.scan.specs.Run.{in_run}
 use Rattle.scan.proofs.Runs.{kind_arm}
 use Rattle.scan.proofs.run.in_other.Goals as goal
-
-pub enum_told-1 : goal.enum_told-1
-unfolding in_run
-enum_told-1 c = search rules
-
-pub is_space-requires : goal.is_space-requires
-unfolding in_run
-is_space-requires c = search rules
-
-pub enum_told-in-Line : goal.enum_told-in-Line
-unfolding in_run
-enum_told-in-Line c = search rules
-
-pub enum_told-in-Body : goal.enum_told-in-Body
-unfolding in_run
-enum_told-in-Body c = search rules
-
-pub enum_told-in-Stamp : goal.enum_told-in-Stamp
-unfolding in_run
-enum_told-in-Stamp c = search rules
-
-pub ends_timestamp-requires : goal.ends_timestamp-requires
-unfolding in_run
-ends_timestamp-requires c = search rules
 
 pub returns-in-Blank : goal.returns-in-Blank
 unfolding in_run

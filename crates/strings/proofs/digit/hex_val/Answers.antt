@@ -1,15 +1,10 @@
 -- `hex_val` is `hex_of`: each return is a row of it. Assumes nothing.
 use mathlib.Core.Path.{sym, ◌∙◌}
 use native.Mathlib.Omega.{arith}
-use borrow.Author.Rules.{rules}
 use Rattle.base.specs.Classes.{is_digit}
 use Rattle.base.proofs.Tests.{within_low, digit_range}
 use Rattle.strings.specs.Piece.{hex_of}
 use Rattle.strings.proofs.digit.hex_val.Goals as goal
-
-pub is_digit-requires : goal.is_digit-requires
-unfolding hex_of is_digit
-is_digit-requires c = search rules
 
 pub overflow_sub-result : goal.overflow_sub-result
 unfolding hex_of is_digit

@@ -1,31 +1,6 @@
 -- `end_detail` is `end_detail`: each arm is a row of it. Assumes nothing.
 use Rattle.strings.specs.Literal.{end_detail}
-use borrow.Author.Rules.{rules}
 use Rattle.strings.proofs.lex.end_detail.Goals as goal
-
-pub enum_told-1 : goal.enum_told-1
-unfolding end_detail
-enum_told-1 c = search rules
-
-pub enum_told-in-AtNewline : goal.enum_told-in-AtNewline
-unfolding end_detail
-enum_told-in-AtNewline c = search rules
-
-pub enum_told-in-Cut : goal.enum_told-in-Cut
-unfolding end_detail
-enum_told-in-Cut c = search rules
-
-pub enum_told-in-Open : goal.enum_told-in-Open
-unfolding end_detail
-enum_told-in-Open c = search rules
-
-pub enum_known-end : goal.enum_known-end
-unfolding end_detail
-enum_known-end c = search rules
-
-pub letter_detail-requires : goal.letter_detail-requires
-unfolding end_detail
-letter_detail-requires c = search rules
 
 pub returns-in-Closed : goal.returns-in-Closed
 unfolding end_detail

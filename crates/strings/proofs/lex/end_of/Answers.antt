@@ -1,32 +1,7 @@
 -- `end_of` is `literal_end`: each arm is a row of it. Assumes nothing.
 use borrow.Author.Tests.{ne_eqb}
 use Rattle.strings.specs.Literal.{literal_end}
-use borrow.Author.Rules.{rules}
 use Rattle.strings.proofs.lex.end_of.Goals as goal
-
-pub enum_told-1 : goal.enum_told-1
-unfolding literal_end
-enum_told-1 c = search rules
-
-pub enum_told-in-AtNewline : goal.enum_told-in-AtNewline
-unfolding literal_end
-enum_told-in-AtNewline c = search rules
-
-pub enum_told-in-Cut : goal.enum_told-in-Cut
-unfolding literal_end
-enum_told-in-Cut c = search rules
-
-pub enum_told-in-Open : goal.enum_told-in-Open
-unfolding literal_end
-enum_told-in-Open c = search rules
-
-pub enum_known-end : goal.enum_known-end
-unfolding literal_end
-enum_known-end c = search rules
-
-pub char_end-requires : goal.char_end-requires
-unfolding literal_end
-char_end-requires c = search rules
 
 pub returns-then-reason-eq-UNKNOWN_ESCAPE : goal.returns-then-reason-eq-UNKNOWN_ESCAPE
 unfolding literal_end

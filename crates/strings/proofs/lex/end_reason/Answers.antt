@@ -1,27 +1,6 @@
 -- `end_reason` is `end_reason`: each arm is a row of it. Assumes nothing.
 use Rattle.strings.specs.Literal.{end_reason}
-use borrow.Author.Rules.{rules}
 use Rattle.strings.proofs.lex.end_reason.Goals as goal
-
-pub enum_told-1 : goal.enum_told-1
-unfolding end_reason
-enum_told-1 c = search rules
-
-pub enum_told-in-AtNewline : goal.enum_told-in-AtNewline
-unfolding end_reason
-enum_told-in-AtNewline c = search rules
-
-pub enum_told-in-Cut : goal.enum_told-in-Cut
-unfolding end_reason
-enum_told-in-Cut c = search rules
-
-pub enum_told-in-Open : goal.enum_told-in-Open
-unfolding end_reason
-enum_told-in-Open c = search rules
-
-pub enum_known-end : goal.enum_known-end
-unfolding end_reason
-enum_known-end c = search rules
 
 pub returns-in-Closed : goal.returns-in-Closed
 unfolding end_reason

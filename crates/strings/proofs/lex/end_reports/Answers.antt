@@ -1,28 +1,7 @@
 -- `end_reports` is the length of `end_notes`: each arm is a row of it. Assumes nothing.
 use Rattle.strings.specs.Literal.{end_notes}
 use native.Mathlib.Omega.{arith}
-use borrow.Author.Rules.{rules}
 use Rattle.strings.proofs.lex.end_reports.Goals as goal
-
-pub enum_told-1 : goal.enum_told-1
-unfolding end_notes
-enum_told-1 c = search rules
-
-pub enum_told-in-AtNewline : goal.enum_told-in-AtNewline
-unfolding end_notes
-enum_told-in-AtNewline c = search rules
-
-pub enum_told-in-Cut : goal.enum_told-in-Cut
-unfolding end_notes
-enum_told-in-Cut c = search rules
-
-pub enum_told-in-Open : goal.enum_told-in-Open
-unfolding end_notes
-enum_told-in-Open c = search rules
-
-pub enum_told-in-Bad : goal.enum_told-in-Bad
-unfolding end_notes
-enum_told-in-Bad c = search rules
 
 pub returns-in-Closed : goal.returns-in-Closed
 unfolding end_notes

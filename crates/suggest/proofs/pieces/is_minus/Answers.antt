@@ -1,17 +1,8 @@
 -- `is_minus` is `is_minus`, by the run of blanks. Assumes nothing.
-use borrow.Author.Rules.{rules}
 use Rattle.scan.specs.Run.{in_run}
 use Rattle.lexer.specs.Token.{start_at}
 use Rattle.suggest.specs.Helpers.{is_minus}
 use Rattle.suggest.proofs.pieces.is_minus.Goals as goal
-
-pub reach_run-requires : goal.reach_run-requires
-unfolding is_minus start_at in_run
-reach_run-requires c = search rules
-
-pub peek-requires : goal.peek-requires
-unfolding is_minus start_at in_run
-peek-requires c = search rules
 
 pub returns : goal.returns
 unfolding is_minus start_at in_run

@@ -3,10 +3,6 @@ use Rattle.token_file.specs.Format.{file_count}
 use borrow.Author.Rules.{rules}
 use Rattle.token_file.proofs.read.count_of.Goals as goal
 
-pub get_little-requires : goal.get_little-requires
-unfolding file_count
-get_little-requires c = search rules
-
 pub returns : goal.returns
 unfolding file_count
 returns c = search rules

@@ -1,11 +1,6 @@
 -- `indent_size` is `indent_size`: all of the indent, or none. Assumes nothing.
 use Rattle.triple_strings.specs.UndentBytes.{indent_size}
-use borrow.Author.Rules.{rules}
 use Rattle.triple_strings.proofs.lines.indent_size.Goals as goal
-
-pub starts_with-requires : goal.starts_with-requires
-unfolding indent_size
-starts_with-requires c = search rules
 
 pub returns-then-starts_with : goal.returns-then-starts_with
 unfolding indent_size

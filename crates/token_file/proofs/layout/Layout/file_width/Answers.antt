@@ -1,12 +1,7 @@
 -- `file_width` is `file_width`, which the caller shows to fit. Assumes nothing.
 use Rattle.token_file.specs.Format.{file_width}
 use native.Mathlib.Omega.{arith}
-use borrow.Author.Rules.{rules}
 use Rattle.token_file.proofs.layout.Layout.file_width.Goals as goal
-
-pub row_width-requires : goal.row_width-requires
-unfolding file_width
-row_width-requires c = search rules
 
 pub overflow_mul-result : goal.overflow_mul-result
 unfolding file_width

@@ -34,7 +34,7 @@ STATED = [
     ("listing_lines", "Example", "ExampleListed"),
 ]
 
-WORD = re.compile(r'[^\s(){},;"`⌜⌝]+')
+WORD = re.compile(r'[^\s(){},;"`]+')
 DECLARED = re.compile(r"^(abbrev |unfoldable )?(?:pub )?(record |data )?([^\s:(){}]+)(?: \{ℓ\})?(?: [({][^\n]*)?(?:\n    [^\n]*)?? :", re.M)
 IMPORTED = re.compile(r"^(?:ghost )?use Rattle\.(\w+)\.specs\.([\w.-]+?)(?:\.\{([^}]*)\}| as (\S+?));?$", re.M)
 

@@ -1,4 +1,5 @@
 pub mod Choice
+pub mod Answers
 pub mod Characters
 pub mod Bytes
 pub mod Classes

@@ -1,16 +1,18 @@
 -- For the tests of class.rt and for kinds.rt: the table of byte kinds. Each rule is one test that antt computes over the whole table, and one law that
 -- turns it into the rule at each byte. Assumes nothing.
 use mathlib.Core.Path.{◌≡◌, refl}
-use mathlib.Core.Bool.{Bool, true, false, not, ◌&&◌}
+use mathlib.Core.Bool.{Bool, true, false, not, ◌&&◌, ◌||◌}
 use Prim.Native.Nat.{ℕ, ◌+◌, ◌*◌, ◌/◌, ◌%◌, ◌^◌, ◌<◌}
 use Prim.Native.Char.{code}
 use native.Mathlib.Nat.{mod-lt, div-add-mod, div-lt_iff_lt-mul}
 use native.Mathlib.Omega.{arith}
+use borrow.Author.Tests.{eqb-true}
 use lib.Bits.{bit_or}
 use lib.Dec.{T, eqb, eqb→eq, leb, ltb, lit<}
 use Rattle.base.specs.Classes.{is_digit, is_lower_alpha, is_ident_start, is_ident_part, is_duration_unit}
 use Rattle.base.specs.Kinds.{kind_of, is_letter, begins_unit, sum_of_kinds, TableOfKinds}
-use Rattle.base.specs.Masks.{mask_of, word_of, has_bit, kind_test}
+use Rattle.base.specs.Masks.{mask_of, word_of, has_bit, is_kind, kind_test}
+use Rattle.base.proofs.Tests.{or_case}
 use Rattle.base.proofs.Tables.{all, all_below}
 
 -- two numbers of a byte that are the same for each
@@ -24,7 +26,7 @@ table_of_kinds = record { size = refl; sums = numbers_agree (λ (k : ℕ). kind_
 
 -- ---- the tests that read it
 
-abbrev agree : Bool → Bool → Bool
+abbrev pub agree : Bool → Bool → Bool
 agree true b = b
 agree false b = not b
 
@@ -37,6 +39,14 @@ agreed false false t = refl
 -- the same of two tests
 pub tests_agree : (f g : ℕ → Bool) → T (all (λ (k : ℕ). agree (f k) (g k)) 256) → (b : ℕ) → b < 256 → f b ≡ g b
 tests_agree f g t b h = agreed (f b) (g b) (all_below (λ (k : ℕ). agree (f k) (g k)) 256 t b h)
+
+-- what holds of each of the four kinds
+pub by_kind : (P : ℕ → Type 0) → P 1 → P 2 → P 4 → P 8 → (n : ℕ) → is_kind n ≡ true → P n
+by_kind P a b c d n e =
+    or_case ((eqb n 1 || eqb n 2) || eqb n 4) (eqb n 8) e
+    (λ f. or_case (eqb n 1 || eqb n 2) (eqb n 4) f
+    (λ g. or_case (eqb n 1) (eqb n 2) g (λ h. rw (eqb-true n 1 h) a) (λ h. rw (eqb-true n 2 h) b)) (λ g. rw (eqb-true n 4 g) c))
+    (λ f. rw (eqb-true n 8 f) d)
 
 -- ---- four rows of sixteen entries make the word of 64
 
@@ -52,27 +62,28 @@ module _ (n q : ℕ) where
   joins = eqb rows (mask_of n (64 * q) 64)
 
 -- for each of the four kinds, and q times 64 bytes before
-rows_join : (k q : ℕ) → k < 4 → q < 4 → rows (2 ^ k) q ≡ mask_of (2 ^ k) (64 * q) 64
+rows_join : (n q : ℕ) → is_kind n ≡ true → q < 4 → rows n q ≡ mask_of n (64 * q) 64
 unfolding mask_of
-rows_join k q h l =
-    eqb→eq (rows (2 ^ k) q) (mask_of (2 ^ k) (64 * q) 64)
-    (all_below (joins (2 ^ k)) 4 (all_below (λ (i : ℕ). all (joins (2 ^ i)) 4) 4 tt k h) q l)
+rows_join n q e l = by_kind (λ k. rows k q ≡ mask_of k (64 * q) 64) (at 1 tt) (at 2 tt) (at 4 tt) (at 8 tt) n e
+  where
+    at : (k : ℕ) → T (all (joins k) 4) → rows k q ≡ mask_of k (64 * q) 64
+    at k t = eqb→eq (rows k q) (mask_of k (64 * q) 64) (all_below (joins k) 4 t q l)
 
 -- in the case that b is one of these
-pub four_rows : (k q : ℕ) → k < 4 → q < 4 → (b w x y z : ℕ) → b / 64 ≡ q → w ≡ mask_of (2 ^ k) (64 * q) 16
-    → x ≡ mask_of (2 ^ k) (64 * q + 16) 16 → y ≡ mask_of (2 ^ k) (64 * q + 32) 16 → z ≡ mask_of (2 ^ k) (64 * q + 48) 16
-    → joined w x y z ≡ word_of (2 ^ k) b
-four_rows k q u l b w x y z e f g h i = rw (e, f, g, h, i) (rows_join k q u l)
+pub four_rows : (n q : ℕ) → is_kind n ≡ true → q < 4 → (b w x y z : ℕ) → b / 64 ≡ q → w ≡ mask_of n (64 * q) 16
+    → x ≡ mask_of n (64 * q + 16) 16 → y ≡ mask_of n (64 * q + 32) 16 → z ≡ mask_of n (64 * q + 48) 16
+    → joined w x y z ≡ word_of n b
+four_rows n q u l b w x y z e f g h i = rw (e, f, g, h, i) (rows_join n q u l)
 
 quarter_lt : (b : ℕ) → b < 256 → b / 64 < 4
 quarter_lt b h = (div-lt_iff_lt-mul (lit< tt)).1 h
 
 -- the same in the last case, where the three before it do not hold
-pub last_rows : (k : ℕ) → k < 4 → (b w x y z : ℕ) → b < 256 → (b / 64 ≡ 0 → ⊥) → (b / 64 ≡ 1 → ⊥) → (b / 64 ≡ 2 → ⊥) → w ≡ mask_of (2 ^ k) 192 16
-    → x ≡ mask_of (2 ^ k) 208 16 → y ≡ mask_of (2 ^ k) 224 16 → z ≡ mask_of (2 ^ k) 240 16 → joined w x y z ≡ word_of (2 ^ k) b
-last_rows k u b w x y z h l m n =
+pub last_rows : (n : ℕ) → is_kind n ≡ true → (b w x y z : ℕ) → b < 256 → (b / 64 ≡ 0 → ⊥) → (b / 64 ≡ 1 → ⊥) → (b / 64 ≡ 2 → ⊥) → w ≡ mask_of n 192 16
+    → x ≡ mask_of n 208 16 → y ≡ mask_of n 224 16 → z ≡ mask_of n 240 16 → joined w x y z ≡ word_of n b
+last_rows n u b w x y z h l m k =
     let q = quarter_lt b h in
-    four_rows k 3 u (lit< tt) b w x y z (omega (arith, l, m, n))
+    four_rows n 3 u (lit< tt) b w x y z (omega (arith, l, m, k))
 
 -- ---- the bit of a byte in the word of its kind tells the kind
 
@@ -81,20 +92,22 @@ abbrev bits_agree : ℕ → (ℕ → Bool) → ℕ → Bool
 bits_agree w f q = all (λ (i : ℕ). agree (has_bit w (64 * q + i)) (f (64 * q + i))) 64
 
 -- so those of each kind do; a word is worked out once for its 64 bytes
-all_agree : T (all (λ (k : ℕ). all (λ (q : ℕ). bits_agree (mask_of (2 ^ k) (64 * q) 64) (kind_test (2 ^ k)) q) 4) 4)
-unfolding mask_of kind_test is_digit is_letter is_ident_start is_ident_part is_duration_unit begins_unit
-all_agree = tt
+abbrev all_agree : ℕ → Bool
+all_agree n = all (λ (q : ℕ). bits_agree (mask_of n (64 * q) 64) (kind_test n) q) 4
 
-pub word_tells : (k : ℕ) → k < 4 → (b : ℕ) → b < 256 → has_bit (word_of (2 ^ k) b) b ≡ kind_test (2 ^ k) b
-word_tells k h b l =
-    let w = word_of (2 ^ k) b in
-    let f = kind_test (2 ^ k) in
-    let s = all_below (λ (j : ℕ). all (λ (q : ℕ). bits_agree (mask_of (2 ^ j) (64 * q) 64) (kind_test (2 ^ j)) q) 4) 4 all_agree k h in
-    let t = all_below (λ (q : ℕ). bits_agree (mask_of (2 ^ k) (64 * q) 64) f q) 4 s (b / 64) (quarter_lt b l) in
-    let u = all_below (λ (i : ℕ). agree (has_bit w (64 * (b / 64) + i)) (f (64 * (b / 64) + i))) 64 t (b % 64) (mod-lt b (lit< tt)) in
-    let c = 64 * (b / 64) + b % 64 in
-    let v : has_bit w c ≡ f c = agreed (has_bit w c) (f c) u in
-    rw (div-add-mod b 64) at v
+pub word_tells : (n : ℕ) → is_kind n ≡ true → (b : ℕ) → b < 256 → has_bit (word_of n b) b ≡ kind_test n b
+unfolding mask_of kind_test is_digit is_letter is_ident_start is_ident_part is_duration_unit begins_unit
+word_tells n e b l = by_kind (λ k. has_bit (word_of k b) b ≡ kind_test k b) (at 1 tt) (at 2 tt) (at 4 tt) (at 8 tt) n e
+  where
+    at : (k : ℕ) → T (all_agree k) → has_bit (word_of k b) b ≡ kind_test k b
+    at k s =
+        let w = word_of k b in
+        let f = kind_test k in
+        let t = all_below (λ (q : ℕ). bits_agree (mask_of k (64 * q) 64) f q) 4 s (b / 64) (quarter_lt b l) in
+        let u = all_below (λ (i : ℕ). agree (has_bit w (64 * (b / 64) + i)) (f (64 * (b / 64) + i))) 64 t (b % 64) (mod-lt b (lit< tt)) in
+        let c = 64 * (b / 64) + b % 64 in
+        let v : has_bit w c ≡ f c = agreed (has_bit w c) (f c) u in
+        rw (div-add-mod b 64) at v
 
 -- ---- letters and units by their other tests
 

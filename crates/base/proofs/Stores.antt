@@ -32,7 +32,7 @@ module _ {A : Type 0} where
       set_sets (set l j w) i (suc j) v vs (omega arith) ∙ rw (set_comm l j i w v (λ e. omega arith))
 
   -- values stored over their own front
-  sets_again : (l : List A) (i k : ℕ) (vs : List A) → sets (sets l i (take k vs)) i vs ≡ sets l i vs
+  pub sets_again : (l : List A) (i k : ℕ) (vs : List A) → sets (sets l i (take k vs)) i vs ≡ sets l i vs
   sets_again l i zero vs = refl
   sets_again l i (suc k) [] = refl
   sets_again l i (suc k) (v ∷ vs) =
@@ -44,47 +44,13 @@ module _ {A : Type 0} where
   sets_front l i vs j n h = rw (take-add j n vs) (rw (length-take-le j vs h) at (sets_append l i (take j vs) (take n (drop j vs))))
 
   -- a front of k values, then n of them from the j-th on, some of which are stored again
-  sets_part : (l : List A) (i : ℕ) (vs : List A) (j k n : ℕ) → j ≤ k → k ≤ j + n → j ≤ length vs
+  pub sets_part : (l : List A) (i : ℕ) (vs : List A) (j k n : ℕ) → j ≤ k → k ≤ j + n → j ≤ length vs
       → sets (sets l i (take k vs)) (i + j) (take n (drop j vs)) ≡ sets l i (take (j + n) vs)
   sets_part l i vs j k n g h r =
       let e : j + (k - j) ≡ k = omega arith in
       let f : sets l i (take k vs) ≡ sets (sets l i (take j vs)) (i + j) (take (k - j) (drop j vs)) = rw e at (sets_front l i vs j (k - j) r) in
       let t : take (k - j) (take n (drop j vs)) ≡ take (k - j) (drop j vs) = take-take (k - j) n (drop j vs) (omega arith) in
       rw f (rw t at (sets_again (sets l i (take j vs)) (i + j) (k - j) (take n (drop j vs)))) ∙ sym (sets_front l i vs j n r)
-
-  -- a copy by parts: k elements are copied, then n from the j-th on, some of which are copied again
-  pub copy_part : (d : List A) (to : ℕ) (s : List A) (start j k n : ℕ) → j ≤ k → k ≤ j + n → start + j ≤ length s
-      → sets (sets d to (take k (drop start s))) (to + j) (take n (drop (start + j) s)) ≡ sets d to (take (j + n) (drop start s))
-  copy_part d to s start j k n g h r =
-      rw (← drop-drop j start s) (sets_part d to (drop start s) j k n g h (rw (length-drop start s) (omega arith)))
-
--- a loop of stores: what is left to store, stored from here on, makes the whole. `z` is what `get_or` gives past the end.
-module _ {A : Type 0} (z : A) where
-  abbrev pub storing : List A → ℕ → List A → ℕ → List A
-  storing d to s k = sets d (to + k) (drop k s)
-
-  pub store_turn : (d : List A) (to : ℕ) (s : List A) (k : ℕ) → k < length s → storing (set d (to + k) (get_or s k z)) to s (k + 1) ≡ storing d to s k
-  store_turn d to s k h =
-      let e₂ : k + 1 ≡ suc k = omega arith in
-      let e₃ : to + suc k ≡ suc (to + k) = omega arith in
-      rw (e₂, e₃, drop-cons s k z h)
-
-  pub store_end : (d : List A) (to : ℕ) (s : List A) (k : ℕ) → length s ≤ k → storing d to s k ≡ d
-  store_end d to s k h = rw (drop_of_length-le s h)
-
-  -- the same of a part of a list, as `copy_bytes` reads it
-  module _ (d : List A) (to : ℕ) (s : List A) (start size k : ℕ) (r : start + size ≤ length s) where
-    part_length : length (take size (drop start s)) ≡ size
-    part_length = length-take-le size (drop start s) (omega (arith, length-drop start s))
-
-    pub copy_turn : k < size
-        → storing (set d (to + k) (get_or s (start + k) z)) to (take size (drop start s)) (k + 1) ≡ storing d to (take size (drop start s)) k
-    copy_turn h =
-        let g : get_or (take size (drop start s)) k z ≡ get_or s (start + k) z = get_or-take size (drop start s) k z h ∙ get_or-drop start s k z in
-        rw g at (store_turn d to (take size (drop start s)) k (omega (arith, part_length)))
-
-    pub copy_end : size ≤ k → storing d to (take size (drop start s)) k ≡ d
-    copy_end h = store_end d to (take size (drop start s)) k (omega (arith, part_length))
 
 -- a list is another one with values stored from an index on
 pub record Stored {A : Type 0} (l : List A) (i : ℕ) (vs l' : List A) : Type 0 where

@@ -1,78 +1,87 @@
--- For `ascii_count` and `past_window` of utf8, and their like in lexeme: the first byte of a window that fails a test, searched by the least index, and
--- runs a window at a time. By cases on the two tests of a turn. Assumes nothing.
+-- For `window_count` and `past_window`: the first byte of a window that is not in a run, searched by the least index, and runs a window at a time.
+-- By cases on the two tests of a turn. Assumes nothing.
 use mathlib.Core.Path.{◌≡◌, refl, ◌∙◌}
 use mathlib.Core.Bool.{Bool, true, false}
 use mathlib.Core.List.{List, [], ◌∷◌}
 use Prim.Native.Nat.{ℕ, zero, suc, ◌+◌, ◌-◌, ◌≤◌, ◌<◌}
+use native.Mathlib.Nat.{add-zero, add_assoc}
 use native.Mathlib.Omega.{arith}
 use borrow.Author.Tests.{lt-ltb, le-ltb, ltb-true, ltb-false}
 use lib.Dec.{ltb}
-use lib.ListN.{length, take, drop, length-take, length-drop}
+use lib.ListN.{length, take, drop}
+use lib.Seq.{get_or-take, get_or-drop}
 use Rattle.base.specs.Choice.{pick}
 use Rattle.base.specs.Bytes.{byte}
-use Rattle.base.specs.Runs.{run}
-use Rattle.base.specs.Blocks.{all_pass, earlier, Ahead}
+use Rattle.base.specs.Runs.{run, reach}
+use Rattle.base.specs.Blocks.{earlier, window_run, Ahead}
 use Rattle.base.proofs.Tests.{by_cases, true_false, pick_le}
-use Rattle.base.proofs.Reaches.{run_le, run_fails, run_all}
-use Rattle.base.proofs.Blocks.{ahead_block}
+use Rattle.base.proofs.Reaches.{run_le, run_fails, run_all, reach_step}
 
-module _ (t : ℕ → Bool) where
-  module _ (s : List ℕ) where
-    -- what the search has found before the byte at j: where the run ends, or the length if it is not ended yet
-    abbrev pub Searched : ℕ → ℕ → Type 0
-    Searched j m = m ≡ pick (ltb (run (λ a b. t a) s) j) (run (λ a b. t a) s) (length s)
+module _ (p : ℕ → ℕ → Bool) (s : List ℕ) where
+  -- what the search has found before the byte at j: where the run ends, or 64 if it is not ended yet
+  abbrev pub Searched : ℕ → ℕ → Type 0
+  Searched j m = m ≡ pick (ltb (run p s) j) (run p s) 64
 
-    pub searched_first : Searched 0 (length s)
-    searched_first = rw (le-ltb (run (λ a b. t a) s) 0 (omega arith))
+  pub searched_first : Searched 0 64
+  searched_first = rw (le-ltb (run p s) 0 (omega arith))
 
-    over : (w : ℕ) → {j : ℕ} → j ≤ w → (w ≡ j → ⊥) → j + 1 ≤ w
-    over w h n = omega (arith, n)
+  over : (w : ℕ) → {j : ℕ} → j ≤ w → (w ≡ j → ⊥) → j + 1 ≤ w
+  over w h n = omega (arith, n)
 
-    same : (w : ℕ) → {j : ℕ} → j ≤ w → (j < w → ⊥) → w ≡ j
-    same w h n = omega (arith, n)
+  same : (w : ℕ) → {j : ℕ} → j ≤ w → (j < w → ⊥) → w ≡ j
+  same w h n = omega (arith, n)
 
-    pub searched_turn : (j m : ℕ) → j < length s → Searched j m → Searched (j + 1) (earlier m (t (byte s j)) (length s) j)
-    unfolding earlier
-    searched_turn j m h u = rw u (go (ltb w j) refl (t (byte s j)) refl)
-      where
-        w : ℕ
-        w = run (λ a b. t a) s
+  pub searched_turn : (j m : ℕ) → 64 < length s → j < 64 → Searched j m → Searched (j + 1) (earlier m (p (byte s j) (byte s (j + 1))) 64 j)
+  unfolding earlier
+  searched_turn j m l h u = rw u (go (ltb w j) refl (p (byte s j) (byte s (j + 1))) refl)
+    where
+      w : ℕ
+      w = run p s
 
-        upto : w ≤ length s
-        upto = run_le (λ a b. t a) s
+      go : (x : Bool) → ltb w j ≡ x → (b : Bool) → p (byte s j) (byte s (j + 1)) ≡ b
+          → pick (ltb (pick b 64 j) (pick x w 64)) (pick b 64 j) (pick x w 64) ≡ pick (ltb w (j + 1)) w 64
+      go true e true f = rw (le-ltb 64 w (omega (arith, ltb-true w j e)), lt-ltb w (j + 1) (omega (arith, ltb-true w j e)))
+      go true e false f = rw (le-ltb j w (omega (arith, ltb-true w j e)), lt-ltb w (j + 1) (omega (arith, ltb-true w j e)))
+      go false e true f =
+          let n : (w ≡ j → ⊥) = λ q. true_false (p (byte s j) (byte s (j + 1))) f (rw q at (run_fails p s (omega arith))) in
+          rw (le-ltb w (j + 1) (over w (ltb-false w j e) n))
+      go false e false f =
+          let n : (j < w → ⊥) = λ q. true_false (p (byte s j) (byte s (j + 1))) (run_all p s j q) f in
+          rw (same w (ltb-false w j e) n, lt-ltb j 64 h, lt-ltb j (j + 1) (omega arith))
 
-        go : (x : Bool) → ltb w j ≡ x → (b : Bool) → t (byte s j) ≡ b
-            → pick (ltb (pick b (length s) j) (pick x w (length s))) (pick b (length s) j) (pick x w (length s)) ≡ pick (ltb w (j + 1)) w (length s)
-        go true e true f = rw (le-ltb (length s) w upto, lt-ltb w (j + 1) (omega (arith, ltb-true w j e)))
-        go true e false f = rw (le-ltb j w (omega (arith, ltb-true w j e)), lt-ltb w (j + 1) (omega (arith, ltb-true w j e)))
-        go false e true f =
-            let n : (w ≡ j → ⊥) = λ q. true_false (t (byte s j)) f (rw q at (run_fails (λ a b. t a) s (omega arith))) in
-            rw (le-ltb (length s) (length s) (omega arith), le-ltb w (j + 1) (over w (ltb-false w j e) n))
-        go false e false f =
-            let n : (j < w → ⊥) = λ q. true_false (t (byte s j)) (run_all (λ a b. t a) s j q) f in
-            rw (same w (ltb-false w j e) n, lt-ltb j (length s) h, lt-ltb j (j + 1) (omega arith))
+  pub searched_le : (j m : ℕ) → j ≤ 64 → Searched j m → m ≤ 64
+  searched_le j m h u = rw u (by_cases (ltb (run p s) j) (λ e. rw e (omega (arith, ltb-true (run p s) j e))) (λ e. rw e (omega arith)))
 
-    pub searched_le : (j m : ℕ) → Searched j m → m ≤ length s
-    searched_le j m u = rw u (pick_le (ltb (run (λ a b. t a) s) j) (run_le (λ a b. t a) s) (omega arith))
+  pub searched_end : (j m : ℕ) → 64 ≤ j → j ≤ 64 → Searched j m → m ≡ window_run p s
+  unfolding window_run
+  searched_end j m h k u = let q : j ≡ 64 = omega arith in rw q at u
 
-    pub searched_end : (j m : ℕ) → length s ≤ j → Searched j m → m ≡ run (λ a b. t a) s
-    searched_end j m h u =
-        let w = run (λ a b. t a) s in
-        u ∙ by_cases (ltb w j) (λ e. rw e) (λ e. rw e (omega (arith, run_le (λ a b. t a) s, ltb-false w j e)))
+-- the bytes of a window, the first `window_run` of them, stay in the run
+module _ (p : ℕ → ℕ → Bool) (s : List ℕ) (i : ℕ) (l : 64 < length s - i) where
+  window : List ℕ
+  window = take 65 (drop i s)
 
-  -- the front that passes, where only w bytes are looked at
-  front : (w : ℕ) (s : List ℕ) → all_pass t (take (run (λ a b. t a) (take w s)) s) ≡ true
-  unfolding all_pass run
-  front zero s = refl
-  front (suc w) [] = refl
-  front (suc w) (a ∷ s) = by_cases (t a) (λ e. rw (e, e) (front w s)) (λ e. rw e)
+  in_window : (k : ℕ) → k < 65 → byte window k ≡ byte s (i + k)
+  unfolding window
+  in_window k h = get_or-take 65 (drop i s) k 0 h ∙ get_or-drop i s k 0
 
-  -- the bytes of a window that pass stay in the run
-  pub ahead_window : (s : List ℕ) (at i w : ℕ) → Ahead (λ a b. t a) s at i → w ≤ length s - i
-      → (n : ℕ) → n ≡ run (λ a b. t a) (take (i + w - i) (drop i s)) → Ahead (λ a b. t a) s at (i + n)
-  ahead_window s at i w u h n e =
-      let z : i + n - i ≡ n = omega arith in
-      let g : all_pass t (take n (drop i s)) ≡ true = rw e (front (i + w - i) (drop i s)) in
-      let l : n ≤ length (take (i + w - i) (drop i s)) = rw e (run_le (λ a b. t a) (take (i + w - i) (drop i s))) in
-      let m : n ≤ length s - i = omega (arith, length-take (i + w - i) (drop i s), length-drop i s) in
-      ahead_block t (λ a b. t a) (λ a b q. q) s at i n u m (all_pass t (take (i + n - i) (drop i s))) refl (rw z g)
+  steps : (n : ℕ) → n ≤ 64 → n ≤ run p window → reach p s (i + n) ≡ reach p s i
+  steps zero h f = rw (add-zero i)
+  steps (suc n) h f =
+      let q : i + suc n ≡ i + n + 1 = omega arith in
+      let a : byte window n ≡ byte s (i + n) = in_window n (omega arith) in
+      let b : byte window (n + 1) ≡ byte s (i + n + 1) = rw (add_assoc i n 1) (in_window (n + 1) (omega arith)) in
+      let o : p (byte s (i + n)) (byte s (i + n + 1)) ≡ true = rw (a, b) at (run_all p window n f) in
+      rw q (reach_step p s (i + n) (omega arith) o ∙ steps n (omega arith) (omega arith))
+
+  least : (m : ℕ) → (pick (ltb m 64) m 64 ≤ 64) × (pick (ltb m 64) m 64 ≤ m)
+  least m = by_cases (ltb m 64) (λ e. rw e (omega (arith, ltb-true m 64 e), omega arith)) (λ e. rw e (omega arith, ltb-false m 64 e))
+
+  pub ahead_window : (at n : ℕ) → Ahead p s at i → n ≡ window_run p (take (i + 64 + 1 - i) (drop i s)) → Ahead p s at (i + n)
+  unfolding window window_run
+  ahead_window at n u e =
+      let z : i + 64 + 1 - i ≡ 65 = omega arith in
+      let f : n ≡ window_run p window = rw z at e in
+      let h : n ≤ 64 = rw f ((least (run p window)).0) in
+      let g : n ≤ run p window = rw f ((least (run p window)).1) in
+      record { later = omega (arith, u.later); inside = omega arith; same = steps n h g ∙ u.same }

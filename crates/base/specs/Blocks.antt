@@ -1,7 +1,7 @@
 -- Helper definitions, for proofs and inner contracts alone: runs that are tested a block of bytes at a time, or searched a window at a time.
 use Rattle.std.specs.Prelude.{◌≡◌, Bool, true, not, ◌&&◌, List, [], ◌∷◌, ℕ, ◌≤◌, eqb, ltb, length}
 use Rattle.base.specs.Choice.{pick}
-use Rattle.base.specs.Runs.{reach}
+use Rattle.base.specs.Runs.{run, reach}
 
 -- all bytes pass the test
 unfoldable pub all_pass : (ℕ → Bool) → List ℕ → Bool
@@ -31,3 +31,7 @@ pub record Ahead (p : ℕ → ℕ → Bool) (s : List ℕ) (i r : ℕ) : Type 0 
   pub later : i ≤ r
   pub inside : r ≤ length s
   pub same : reach p s r ≡ reach p s i
+
+-- how many of the first 64 bytes are in the run
+unfoldable pub window_run : (ℕ → ℕ → Bool) → List ℕ → ℕ
+window_run p s = pick (ltb (run p s) 64) (run p s) 64

@@ -3,37 +3,37 @@ ghost use Rattle.std.specs.Prelude.{◌≡◌};
 ghost use Rattle.base.specs.Classes.{is_digit, is_lower_alpha, is_ident_start, is_ident_part, is_duration_unit, is_space};
 ghost use Rattle.base.specs.Kinds.{begins_unit};
 
-use crate::kinds::{digit_word, has_bit, letter_word, name_word, unit_word};
+use crate::kinds::{DIGIT, LETTER, NAME, UNIT, has_bit, word};
 
 pub fn is_digit(b: u8) -> bool
     ensures { result ≡ is_digit b }
 {
-    has_bit(digit_word(b), b)
+    has_bit(word::<DIGIT>(b), b)
 }
 
 pub fn is_lower_alpha(b: u8) -> bool
     ensures { result ≡ is_lower_alpha b }
 {
-    (b'a' <= b) & has_bit(letter_word(b), b)
+    (b'a' <= b) & has_bit(word::<LETTER>(b), b)
 }
 
 pub fn is_ident_start(b: u8) -> bool
     ensures { result ≡ is_ident_start b }
 {
-    has_bit(letter_word(b), b) | (b == b'_')
+    has_bit(word::<LETTER>(b), b) | (b == b'_')
 }
 
 pub fn is_ident_part(b: u8) -> bool
     ensures { result ≡ is_ident_part b }
 {
-    has_bit(name_word(b), b)
+    has_bit(word::<NAME>(b), b)
 }
 
 // Whether a byte is the first of a unit, of `µs` too.
 pub fn begins_unit(b: u8) -> bool
     ensures { result ≡ begins_unit b }
 {
-    has_bit(unit_word(b), b)
+    has_bit(word::<UNIT>(b), b)
 }
 
 pub fn is_duration_unit(b: u8) -> bool

@@ -1,13 +1,11 @@
 // The kinds of bytes: one table, which decides what a digit, a letter, a byte of a name and the first byte of a unit is. The tests of one byte
 // (class.rt) and of blocks of bytes read it.
-ghost use Rattle.std.specs.Prelude.{◌≡◌, true, ◌+◌, ◌≤◌, length};
-ghost use Rattle.base.specs.Choice.{pick};
+ghost use Rattle.std.specs.Prelude.{◌≡◌, true, ◌+◌, ◌≤◌};
 ghost use Rattle.base.specs.Runs.{reach};
-ghost use Rattle.base.specs.Blocks.{all_pass, Ahead};
 ghost use Rattle.base.specs.Kinds.{kinds, kind_of};
-ghost use Rattle.base.specs.Masks.{mask_of, word_of, has_bit, is_kind, kind_test, in_kind};
+ghost use Rattle.base.specs.Masks.{mask_of, word_of, has_bit, is_kind, in_kind};
 
-use crate::find::BLOCK;
+use crate::runs::{Run, reach_long};
 
 // A digit.
 pub const DIGIT: u8 = 1;
@@ -296,114 +294,37 @@ fn row(t: &[u8; 256], n: u8, at: usize) -> u64
     ensures { result ≡ mask_of n at 16 }
 {
     let mut w: u64 = 0;
-    let mut i: usize = 0;
-    while i < 16 {
-        w = w | (((t[at + i] & n != 0) as u64) << i);
-        i += 1;
+    for i in 0..16 {
+        w |= ((t[at + i] & n != 0) as u64) << i;
     }
     w
 }
 
-// The word of the digits among the 64 bytes from which b is, a bit for each; the words of the other kinds likewise. The compiler keeps no constant array
-// in memory: one that is read at an index which it does not know is laid on the stack at each call. Here it knows every index, and finds the words
-// itself. It does so for loops of sixteen turns whose kind and start are literals, and for no longer ones.
-pub fn digit_word(b: u8) -> u64
-    ensures { result ≡ word_of 1 b }
+// The word of a kind among the 64 bytes from which b is, a bit for each. The compiler keeps no constant array in memory: one that is read at an index
+// which it does not know is laid on the stack at each call. Here it knows every index, and finds the words itself. It does so for loops of sixteen
+// turns whose kind and start are literals, and for no longer ones.
+pub fn word<const KIND: u8>(b: u8) -> u64
+    requires { is_kind KIND ≡ true }
+    ensures { result ≡ word_of KIND b }
 {
     let t = BYTE_KINDS;
-    let q = b >> 6;
-    match q {
-        0 => row(&t, DIGIT, 0)
-            | (row(&t, DIGIT, 16) << 16)
-            | (row(&t, DIGIT, 32) << 32)
-            | (row(&t, DIGIT, 48) << 48),
-        1 => row(&t, DIGIT, 64)
-            | (row(&t, DIGIT, 80) << 16)
-            | (row(&t, DIGIT, 96) << 32)
-            | (row(&t, DIGIT, 112) << 48),
-        2 => row(&t, DIGIT, 128)
-            | (row(&t, DIGIT, 144) << 16)
-            | (row(&t, DIGIT, 160) << 32)
-            | (row(&t, DIGIT, 176) << 48),
-        _ => row(&t, DIGIT, 192)
-            | (row(&t, DIGIT, 208) << 16)
-            | (row(&t, DIGIT, 224) << 32)
-            | (row(&t, DIGIT, 240) << 48),
-    }
-}
-
-pub fn letter_word(b: u8) -> u64
-    ensures { result ≡ word_of 2 b }
-{
-    let t = BYTE_KINDS;
-    let q = b >> 6;
-    match q {
-        0 => row(&t, LETTER, 0)
-            | (row(&t, LETTER, 16) << 16)
-            | (row(&t, LETTER, 32) << 32)
-            | (row(&t, LETTER, 48) << 48),
-        1 => row(&t, LETTER, 64)
-            | (row(&t, LETTER, 80) << 16)
-            | (row(&t, LETTER, 96) << 32)
-            | (row(&t, LETTER, 112) << 48),
-        2 => row(&t, LETTER, 128)
-            | (row(&t, LETTER, 144) << 16)
-            | (row(&t, LETTER, 160) << 32)
-            | (row(&t, LETTER, 176) << 48),
-        _ => row(&t, LETTER, 192)
-            | (row(&t, LETTER, 208) << 16)
-            | (row(&t, LETTER, 224) << 32)
-            | (row(&t, LETTER, 240) << 48),
-    }
-}
-
-pub fn name_word(b: u8) -> u64
-    ensures { result ≡ word_of 4 b }
-{
-    let t = BYTE_KINDS;
-    let q = b >> 6;
-    match q {
-        0 => row(&t, NAME, 0)
-            | (row(&t, NAME, 16) << 16)
-            | (row(&t, NAME, 32) << 32)
-            | (row(&t, NAME, 48) << 48),
-        1 => row(&t, NAME, 64)
-            | (row(&t, NAME, 80) << 16)
-            | (row(&t, NAME, 96) << 32)
-            | (row(&t, NAME, 112) << 48),
-        2 => row(&t, NAME, 128)
-            | (row(&t, NAME, 144) << 16)
-            | (row(&t, NAME, 160) << 32)
-            | (row(&t, NAME, 176) << 48),
-        _ => row(&t, NAME, 192)
-            | (row(&t, NAME, 208) << 16)
-            | (row(&t, NAME, 224) << 32)
-            | (row(&t, NAME, 240) << 48),
-    }
-}
-
-pub fn unit_word(b: u8) -> u64
-    ensures { result ≡ word_of 8 b }
-{
-    let t = BYTE_KINDS;
-    let q = b >> 6;
-    match q {
-        0 => row(&t, UNIT, 0)
-            | (row(&t, UNIT, 16) << 16)
-            | (row(&t, UNIT, 32) << 32)
-            | (row(&t, UNIT, 48) << 48),
-        1 => row(&t, UNIT, 64)
-            | (row(&t, UNIT, 80) << 16)
-            | (row(&t, UNIT, 96) << 32)
-            | (row(&t, UNIT, 112) << 48),
-        2 => row(&t, UNIT, 128)
-            | (row(&t, UNIT, 144) << 16)
-            | (row(&t, UNIT, 160) << 32)
-            | (row(&t, UNIT, 176) << 48),
-        _ => row(&t, UNIT, 192)
-            | (row(&t, UNIT, 208) << 16)
-            | (row(&t, UNIT, 224) << 32)
-            | (row(&t, UNIT, 240) << 48),
+    match b >> 6 {
+        0 => row(&t, KIND, 0)
+            | (row(&t, KIND, 16) << 16)
+            | (row(&t, KIND, 32) << 32)
+            | (row(&t, KIND, 48) << 48),
+        1 => row(&t, KIND, 64)
+            | (row(&t, KIND, 80) << 16)
+            | (row(&t, KIND, 96) << 32)
+            | (row(&t, KIND, 112) << 48),
+        2 => row(&t, KIND, 128)
+            | (row(&t, KIND, 144) << 16)
+            | (row(&t, KIND, 160) << 32)
+            | (row(&t, KIND, 176) << 48),
+        _ => row(&t, KIND, 192)
+            | (row(&t, KIND, 208) << 16)
+            | (row(&t, KIND, 224) << 32)
+            | (row(&t, KIND, 240) << 48),
     }
 }
 
@@ -414,48 +335,32 @@ pub fn has_bit(w: u64, b: u8) -> bool
     (w >> (b & 63)) & 1 != 0
 }
 
-// The kind n where every byte is of it, else 0. It looks at every byte, so that there is no branch.
-fn kept(t: &[u8; 256], n: u8, s: &[u8]) -> u8
-    requires { (t.now ≡ kinds) × (is_kind n ≡ true) }
-    ensures { result ≡ pick (all_pass (kind_test n) s.now) n 0 }
-{
-    let mut m = n;
-    let mut i = 0;
-    while i < s.len() {
-        m = m & t[s[i] as usize];
-        i += 1;
-    }
-    m
+// The bytes of a kind, by the table laid once and lent.
+#[derive(Clone, Copy)]
+struct Laid<'a> {
+    table: &'a [u8; 256],
+    kind: u8,
+    ghost is_table: { table.now ≡ kinds },
+    ghost is_kind: { is_kind kind ≡ true },
 }
 
-// The end of the blocks from `at` on whose bytes are all of the kind n.
-fn past_blocks(t: &[u8; 256], n: u8, s: &[u8], at: usize) -> usize
-    requires { (t.now ≡ kinds) × (is_kind n ≡ true) × (at ≤ length s.now) }
-    ensures { Ahead (in_kind n) s.now at result }
-{
-    let mut i = at;
-    while BLOCK <= s.len() - i {
-        let end = i + BLOCK;
-        if kept(t, n, &s[i..end]) == 0 {
-            return i;
-        }
-        i = end;
+impl<'a> Run for Laid<'a> {
+    ghost has = { λ run. in_kind run.kind };
+
+    fn has(self, a: u8, _b: u8) -> bool {
+        self.kind & self.table[a as usize] != 0
     }
-    i
 }
 
-// The end of the run of bytes of the kind n that starts at `at`, for runs that are often long: the table is laid once and lent.
-pub fn reach_kind(n: u8, s: &[u8], at: usize) -> usize
-    requires { (is_kind n ≡ true) × (at ≤ length s.now) }
-    ensures { result ≡ reach (in_kind n) s.now at }
+// The end of the run of bytes of a kind that starts at `at`, for runs that are often long.
+pub fn reach_kind(kind: u8, s: &[u8], at: usize) -> usize
+    requires { is_kind kind ≡ true }
+    ensures { result ≡ reach (in_kind kind) s.now at }
 {
-    let t = BYTE_KINDS;
-    let mut i = past_blocks(&t, n, s, at);
-    while i < s.len() {
-        if n & t[s[i] as usize] == 0 {
-            return i;
-        }
-        i += 1;
-    }
-    i
+    let table = BYTE_KINDS;
+    let laid = Laid {
+        table: &table,
+        kind,
+    };
+    reach_long(laid, s, at)
 }

@@ -2,7 +2,7 @@
 // crates cite stand in specs/ and proofs/.
 #![tactic(auto)]
 
-ghost use Rattle.std.specs.Prelude.{◌≡◌, ◌+◌, ◌≤◌, ◌<◌, length, take, drop};
+ghost use Rattle.std.specs.Prelude.{◌≡◌, ◌+◌, ◌≤◌, ◌<◌, length};
 ghost use Rattle.std.proofs.lemmas.List.Edits.{sets};
 ghost use Rattle.base.specs.Bytes.{byte};
 
@@ -11,8 +11,9 @@ pub mod class;
 pub mod digits;
 pub mod find;
 pub mod kinds;
+pub mod runs;
 
-use crate::find::BLOCK;
+use crate::runs::BLOCK;
 
 // The byte at `k`, or 0 past the end.
 pub fn peek(s: &[u8], k: usize) -> u8
@@ -31,56 +32,42 @@ pub fn wide(b: u8) -> u32
     b as u32
 }
 
-// Stores the numbers of `xs` from index `i` on.
-pub fn store(buf: &mut [i64], i: usize, xs: &[i64])
-    requires { i + length xs.now ≤ length buf.old }
-    ensures { buf.new ≡ sets buf.old i xs.now }
+// Stores the elements of `xs` from index `at` on, one by one.
+pub fn store<T: Copy>(buf: &mut [T], at: usize, xs: &[T])
+    requires { at + length xs.now ≤ length buf.old }
+    ensures { buf.new ≡ sets buf.old at xs.now }
 {
-    let mut k = 0;
-    while k < xs.len() {
-        let x = xs[k];
-        buf[i + k] = x;
-        k += 1;
+    for k in 0..xs.len() {
+        buf[at + k] = xs[k];
     }
 }
 
-// Copies `size` bytes of `src` from `start` on to `dst` from `to` on, one by one.
-fn copy_bytes(dst: &mut [u8], to: usize, src: &[u8], start: usize, size: usize)
-    requires { (to + size ≤ length dst.old) × (start + size ≤ length src.now) }
-    ensures { dst.new ≡ sets dst.old to (take size (drop start src.now)) }
-{
-    let mut k = 0;
-    while k < size {
-        dst[to + k] = src[start + k];
-        k += 1;
-    }
-}
-
-// Copies a block. It is all loaded before it is stored, so that it is one load and one store.
-fn copy_block(dst: &mut [u8], to: usize, src: &[u8], start: usize)
-    requires { (to + 16 ≤ length dst.old) × (start + 16 ≤ length src.now) }
-    ensures { dst.new ≡ sets dst.old to (take 16 (drop start src.now)) }
+// Stores a block. It is all loaded before it is stored, so that it is one load and one store.
+fn store_block(buf: &mut [u8], at: usize, xs: &[u8])
+    requires { (length xs.now ≡ 16) × (at + 16 ≤ length buf.old) }
+    ensures { buf.new ≡ sets buf.old at xs.now }
 {
     let mut block = [0u8; BLOCK];
-    copy_bytes(&mut block, 0, src, start, BLOCK);
-    copy_bytes(dst, to, &block, 0, BLOCK);
+    store(&mut block, 0, xs);
+    store(buf, at, &block);
 }
 
-// Copies `size` bytes of `src` from `start` on to `dst` from `to` on, by blocks. The last block ends with the last byte, and may store some
-// bytes twice.
-pub fn copy(dst: &mut [u8], to: usize, src: &[u8], start: usize, size: usize)
-    requires { (to + size ≤ length dst.old) × (start + size ≤ length src.now) }
-    ensures { dst.new ≡ sets dst.old to (take size (drop start src.now)) }
+// Stores the bytes of `xs` from index `at` on, by blocks. The last block ends with the last byte, and may store some bytes twice.
+pub fn copy(buf: &mut [u8], at: usize, xs: &[u8])
+    requires { at + length xs.now ≤ length buf.old }
+    ensures { buf.new ≡ sets buf.old at xs.now }
 {
+    let size = xs.len();
     let mut k = 0;
     while BLOCK <= size - k {
-        copy_block(dst, to + k, src, start + k);
-        k += BLOCK;
+        let end = k + BLOCK;
+        store_block(buf, at + k, &xs[k..end]);
+        k = end;
     }
     if BLOCK <= size {
         let last = size - BLOCK;
-        copy_block(dst, to + last, src, start + last);
+        store_block(buf, at + last, &xs[last..]);
         return;
     }
-    copy_bytes(dst, to, src, start, size);
+    store(buf, at, xs);
 }

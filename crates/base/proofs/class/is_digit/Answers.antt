@@ -1,5 +1,5 @@
 -- `is_digit` is `is_digit`, by the table. Assumes nothing.
-use lib.Dec.{lit<}
+use mathlib.Core.Path.{refl}
 use borrow.Author.Rules.{rules}
 use Rattle.base.specs.Masks.{kind_test}
 use Rattle.base.proofs.ByteKinds.{word_tells}
@@ -7,4 +7,4 @@ use Rattle.base.proofs.class.is_digit.Goals as goal
 
 pub returns : goal.returns
 unfolding kind_test
-returns c = rw (c.has_bit.ensures, c.digit_word.ensures) (word_tells 0 (lit< tt) _ (search rules))
+returns c = rw (c.has_bit.ensures, c.word.ensures) (word_tells 1 refl _ (search rules))

@@ -7,15 +7,15 @@ use Rattle.base.proofs.kinds.row.Goals as goal
 
 pub loop-i-init : goal.loop-i-init
 unfolding mask_of
-loop-i-init c = (omega arith, refl)
+loop-i-init c = refl
 
 pub loop-i-preserved : goal.loop-i-preserved
 unfolding mask_of
 loop-i-preserved c = let l = c.loop-i in
     let q : l.i + 1 ≡ suc l.i = omega arith in
-    (omega arith, rw (q, c.requires.0, l.invariant.1))
+    rw (q, c.requires.0, l.invariant)
 
 pub returns : goal.returns
 returns c = let l = c.loop-i in
-    let e : l.i ≡ 16 = omega (arith, l.invariant.0) in
-    rw e at l.invariant.1
+    let e : l.i ≡ 16 = omega (arith, l.auto.i-end, c.loop-i-test.false) in
+    rw e at l.invariant

@@ -1,0 +1,131 @@
+// The ends of runs of bytes, searched a block or a window of bytes at a time.
+ghost use Rattle.std.specs.Prelude.{◌≡◌, ℕ, Bool, ◌≤◌, ◌<◌, ◌+◌, length};
+ghost use Rattle.base.specs.Runs.{reach};
+ghost use Rattle.base.specs.Blocks.{all_pairs, earlier, window_run, Ahead};
+
+// How many bytes a block has, wherever bytes are tested or copied by blocks.
+pub const BLOCK: usize = 16;
+
+// How many bytes a window has, wherever the first byte that is not in a run is searched in one.
+pub const WINDOW: usize = 64;
+
+// The bytes of a run.
+pub trait Run: Copy {
+    ghost has: { Self → ℕ → ℕ → Bool };
+
+    // Whether the byte `a`, with `b` after it (0 past the end), belongs to the run.
+    fn has(self, a: u8, b: u8) -> bool
+        ensures { result ≡ has self a b };
+}
+
+// A run that is often short.
+pub trait ShortRun: Run {
+    // The end of the run where it has gone on to `at`.
+    fn reach_on(self, s: &[u8], at: usize) -> usize
+        requires { at ≤ length s.now }
+        ensures { result ≡ reach (Self.has self) s.now at };
+}
+
+// Whether each byte but the last belongs to the run. It looks at every byte, so that several can be tested by one instruction.
+pub fn all<R: Run>(run: R, s: &[u8]) -> bool
+    ensures { result ≡ all_pairs (R.has run) s.now }
+{
+    let mut all = true;
+    for i in 1..s.len() {
+        all &= run.has(s[i - 1], s[i]);
+    }
+    all
+}
+
+// The end of the blocks from `at` on that belong to the run. Each is tested with the byte after it.
+pub fn past_blocks<R: Run>(run: R, s: &[u8], at: usize) -> usize
+    requires { at ≤ length s.now }
+    ensures { Ahead (R.has run) s.now at result }
+{
+    let mut i = at;
+    while BLOCK < s.len() - i {
+        let end = i + BLOCK;
+        let next = end + 1;
+        if !all(run, &s[i..next]) {
+            return i;
+        }
+        i = end;
+    }
+    i
+}
+
+// One turn of the search for the first byte of a window that is not in the run, by the least index: `m` before, and after the byte at `j`. It
+// is the window's length as long as all are. The search has no branch, so that several bytes can be tested by one instruction.
+fn earlier(m: u8, has: bool, j: u8) -> u8
+    ensures { result ≡ earlier m has 64 j }
+{
+    let k = if has { WINDOW as u8 } else { j };
+    if k < m { k } else { m }
+}
+
+// How many bytes of a window, which has one more after it, belong to the run.
+fn window_count<R: Run>(run: R, s: &[u8]) -> usize
+    requires { 64 < length s.now }
+    ensures { result ≡ window_run (R.has run) s.now }
+{
+    let mut m = WINDOW as u8;
+    for j in 0..WINDOW as u8 {
+        let i = j as usize;
+        m = earlier(m, run.has(s[i], s[i + 1]), j);
+    }
+    m as usize
+}
+
+// The end of the run in the window at `at`, where there is a whole one.
+pub fn past_window<R: Run>(run: R, s: &[u8], at: usize) -> usize
+    requires { at ≤ length s.now }
+    ensures { Ahead (R.has run) s.now at result }
+{
+    if s.len() - at <= WINDOW {
+        return at;
+    }
+    let end = at + WINDOW + 1;
+    at + window_count(run, &s[at..end])
+}
+
+// The end of the run that starts at `at`, for runs that are often long.
+pub fn reach_long<R: Run>(run: R, s: &[u8], at: usize) -> usize
+    ensures { result ≡ reach (R.has run) s.now at }
+{
+    if s.len() < at {
+        return at;
+    }
+    reach_bytes(run, s, past_blocks(run, s, at))
+}
+
+// The same, one byte at a time.
+pub fn reach_bytes<R: Run>(run: R, s: &[u8], at: usize) -> usize
+    ensures { result ≡ reach (R.has run) s.now at }
+{
+    let mut i = at;
+    while i < s.len() {
+        if !run.has(s[i], crate::peek(s, i + 1)) {
+            return i;
+        }
+        i += 1;
+    }
+    i
+}
+
+// The same, for runs that are often short: it is small, and goes on by blocks only where a run is long.
+pub fn reach_run<R: ShortRun>(run: R, s: &[u8], at: usize) -> usize
+    ensures { result ≡ reach (R.has run) s.now at }
+{
+    let mut i = at;
+    while i < s.len() {
+        if !run.has(s[i], crate::peek(s, i + 1)) {
+            return i;
+        }
+        i += 1;
+        if i % BLOCK == 0 {
+            // a slice of its own, so that `s` itself stays in registers
+            return run.reach_on(&s[0..], i);
+        }
+    }
+    i
+}

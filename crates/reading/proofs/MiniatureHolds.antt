@@ -17,7 +17,7 @@ use Rattle.rfc3339.specs.Instant.{date_by}
 use Rattle.token.specs.Kind.{kind_number}
 use Rattle.token.specs.Place.{place_at}
 use Rattle.lexeme.specs.Reports.{report_of}
-use Rattle.scan.specs.Run.{ends_timestamp, in_run, unit_piece}
+use Rattle.scan.specs.Run.{ends_timestamp, unit_piece}
 use Rattle.scan.specs.Comment.{lex_line_comment, open_end, body_end, open_comment, lex_block_comment, block_notes}
 use Rattle.scan.specs.Name.{name_kind, lex_ident, directive, lex_directive}
 use Rattle.scan.specs.Bytes.{bytes_stop, lex_bytes, bytes_notes}
@@ -40,7 +40,7 @@ unfolding cases run reach walk past same_bytes is_digit is_lower_alpha is_ident_
     valid_to is_tail char_end code_bits decode_of is_scalar encode_of scale_of product_of nanos_of add_digit read_digits frac_of fraction_nanos units
     unit_of value_from whole_end has_point fraction_start fraction_end unit_end whole_of part_unit part_fraction digitless part_of sum_from with_sign
     unsigned parse_of mul div of_int to_unsigned pair_of is_pair is_fullyear is_full_date is_date_time date_by kind_number place_at report_of
-    ends_timestamp in_run unit_piece lex_line_comment open_end body_end open_comment lex_block_comment block_notes name_kind lex_ident directive
+    ends_timestamp unit_piece lex_line_comment open_end body_end open_comment lex_block_comment block_notes name_kind lex_ident directive
     lex_directive bytes_stop lex_bytes bytes_notes lex_precision past_point past_sign past_exponent past_fraction at_duration_unit lex_duration value_end
     lex_tail lex_timestamp lex_digits at_inf lex_number lex_other hex_of oct_of simple_of letters hex_piece oct_piece hex_count hex_value code_piece
     escape_piece piece_of step_of letter_detail step_notes decode well_formed literal_of end_reason literal_reason end_detail literal_end end_notes

@@ -22,10 +22,9 @@ use Rattle.lexeme.specs.declared.Mode.{Mode}
 use Rattle.lexeme.specs.declared.Mode.TheVariants.{Strict, Tolerant}
 use Rattle.utf8.specs.Onward.{Boundary}
 use Rattle.utf8.proofs.Boundaries.{ascii_boundary, end_boundary, char_end_ge, char_end_le, char_end_boundary}
-use Rattle.scan.specs.Run.{in_run}
+use Rattle.scan.specs.Run.{in_line, in_body}
 use Rattle.scan.specs.Comment.{lex_line_comment, open_end, body_end, open_comment, lex_block_comment, open_comment_notes, block_notes}
-use Rattle.scan.specs.declared.run.Run.TheVariants as run
-use Rattle.scan.proofs.Runs.{body_boundary, run_boundary}
+use Rattle.scan.proofs.Runs.{body_boundary, line_boundary}
 use Rattle.scan.proofs.Scanned.{Plain, plain, Scanned, Ends, extent_scanned, whole_scanned, illegal_scanned}
 
 comment : Plain K.Comment
@@ -33,16 +32,16 @@ unfolding kind_number
 comment = plain K.Comment refl
 
 pub line_scanned : (s : List ℕ) → 0 < length s → eqb (byte s 0) 10 ≡ false → Scanned s (lex_line_comment s)
-unfolding lex_line_comment in_run
+unfolding lex_line_comment
 line_scanned s h e =
-    let n = reach (in_run run.Line) s 0 in
-    let g = reach_one (in_run run.Line) s 0 h (rw e) in
-    whole_scanned s n (record { some = omega arith; inside = reach_le (in_run run.Line) s 0 zero-le; between = run_boundary run.Line s 0 }) K.Comment comment
+    let n = reach in_line s 0 in
+    let g = reach_one in_line s 0 h (rw e) in
+    whole_scanned s n (record { some = omega arith; inside = reach_le in_line s 0 zero-le; between = line_boundary s 0 }) K.Comment comment
 
 -- the body ends at `*/`
 closes : (s : List ℕ) → body_end s < length s → eqb (byte s (body_end s)) 42 && eqb (byte s (body_end s + 1)) 47 ≡ true
-unfolding body_end in_run
-closes s l = not-false _ (reach_fails (in_run run.Body) s 2 l)
+unfolding body_end
+closes s l = not-false _ (reach_fails in_body s 2 l)
 
 module _ (s : List ℕ) (h : 2 ≤ length s) where
   body_between : Boundary s 0 → Boundary s (body_end s)

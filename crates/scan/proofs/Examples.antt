@@ -25,7 +25,7 @@ use Rattle.go_duration.specs.Parse.{part_of, sum_from, with_sign, unsigned, pars
 use Rattle.rfc3339.specs.Calendar.{is_leap, month_length}
 use Rattle.rfc3339.specs.Grammar as grammar
 use Rattle.rfc3339.specs.Instant.{date_by}
-use Rattle.scan.specs.Run.{ends_timestamp, in_run, unit_piece}
+use Rattle.scan.specs.Run.{ends_timestamp, unit_piece}
 use Rattle.scan.specs.Comment.{lex_line_comment, open_end, body_end, open_comment, lex_block_comment, block_notes}
 use Rattle.scan.specs.Name.{name_kind, lex_ident, directive, lex_directive}
 use Rattle.scan.specs.Bytes.{bytes_stop, lex_bytes, bytes_notes}
@@ -152,7 +152,7 @@ unfolding same_bytes is_digit is_lower_alpha is_ident_start is_ident_part is_dur
     whole_end has_point fraction_start fraction_end unit_end whole_of part_unit part_fraction digitless part_of sum_from with_sign unsigned parse_of mul
     div of_int to_unsigned is_leap month_length grammar.pair_of grammar.is_pair grammar.year_of grammar.is_fullyear grammar.is_full_date grammar.is_t
     grammar.hour_end grammar.is_hour grammar.is_second grammar.has_secfrac grammar.secfrac_end grammar.is_secfrac grammar.is_partial_time
-    grammar.is_z grammar.is_date_time date_by ends_timestamp in_run unit_piece lex_line_comment open_end body_end open_comment lex_block_comment
+    grammar.is_z grammar.is_date_time date_by ends_timestamp unit_piece lex_line_comment open_end body_end open_comment lex_block_comment
     block_notes name_kind lex_ident directive lex_directive bytes_stop lex_bytes bytes_notes lex_precision past_point past_sign past_exponent
     past_fraction at_duration_unit lex_duration value_end lex_tail lex_timestamp lex_digits at_inf lex_number lex_other
 worked = refl

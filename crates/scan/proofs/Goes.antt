@@ -11,6 +11,7 @@ use lib.ListN.{length}
 use Rattle.base.specs.Choice.{pick}
 use Rattle.base.specs.Bytes.{byte}
 use Rattle.base.specs.Classes.{is_digit, is_space}
+use Rattle.base.specs.Digits.{in_digits}
 use Rattle.base.specs.Runs.{reach, past}
 use Rattle.base.proofs.Reaches.{reach_ge, reach_le}
 use Rattle.base.proofs.Walks.{past_ge, past_le}
@@ -18,12 +19,10 @@ use Rattle.base.proofs.Tests.{and_left, pick_case, in_text}
 use Rattle.token.specs.Helpers.{Flat}
 use Rattle.utf8.specs.Onward.{Boundary}
 use Rattle.utf8.proofs.Boundaries.{ascii_boundary}
-use Rattle.scan.specs.Run.{ends_timestamp, in_run, unit_piece}
+use Rattle.scan.specs.Run.{ends_timestamp, in_stamp, unit_piece}
 use Rattle.scan.specs.Number.{past_point, past_sign, past_exponent, past_fraction, value_end}
-use Rattle.scan.specs.declared.run.Run.TheVariants as run
-use Rattle.scan.specs.declared.run.Run.{Run}
 use Rattle.scan.proofs.Flats.{flat_byte, flat_run}
-use Rattle.scan.proofs.Runs.{low, equal_high, run_boundary, units_boundary, units_flat}
+use Rattle.scan.proofs.Runs.{low, equal_high, digits_boundary, stamp_boundary, units_boundary, units_flat}
 
 pub record Goes (s : List ℕ) (i e : ℕ) : Type 0 where
   pub ge : i ≤ e
@@ -44,17 +43,16 @@ module _ (s : List ℕ) where
       record { ge = omega (arith, g.ge, h.ge); le = λ l. h.le (g.le l); between = λ b. h.between (g.between b); flat = λ f. h.flat (g.flat f) }
 
   -- over a run that has no newline
-  goes_run : (k : Run) → ((b : ℕ) → in_run k 10 b ≡ false) → (i : ℕ) → Goes s i (reach (in_run k) s i)
-  goes_run k z i =
-      record { ge = reach_ge (in_run k) s i; le = reach_le (in_run k) s i; between = run_boundary k s i; flat = flat_run s (in_run k) z i }
+  goes_run : (p : ℕ → ℕ → Bool) → ((b : ℕ) → p 10 b ≡ false) → (i : ℕ) → (Boundary s i → Boundary s (reach p s i)) → Goes s i (reach p s i)
+  goes_run p z i b = record { ge = reach_ge p s i; le = reach_le p s i; between = b; flat = flat_run s p z i }
 
-  pub goes_digits : (i : ℕ) → Goes s i (reach (in_run run.Digits) s i)
-  unfolding in_run is_digit
-  goes_digits = goes_run run.Digits (λ b. refl)
+  pub goes_digits : (i : ℕ) → Goes s i (reach in_digits s i)
+  unfolding is_digit
+  goes_digits i = goes_run in_digits (λ b. refl) i (digits_boundary s i)
 
-  pub goes_stamp : (i : ℕ) → Goes s i (reach (in_run run.Stamp) s i)
-  unfolding in_run ends_timestamp is_space
-  goes_stamp = goes_run run.Stamp (λ b. refl)
+  pub goes_stamp : (i : ℕ) → Goes s i (reach in_stamp s i)
+  unfolding ends_timestamp is_space
+  goes_stamp i = goes_run in_stamp (λ b. refl) i (stamp_boundary s i)
 
   pub goes_units : (i : ℕ) → Goes s i (past unit_piece s i)
   goes_units i = record { ge = past_ge unit_piece s i; le = past_le unit_piece s i; between = units_boundary s i; flat = units_flat s i }

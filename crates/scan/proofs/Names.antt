@@ -17,10 +17,9 @@ use Rattle.token.specs.Helpers.{Flat}
 use Rattle.token.specs.Reason as reasons
 use Rattle.token.specs.declared.kind.TokenKind.TheVariants as K
 use Rattle.utf8.proofs.Boundaries.{ascii_boundary}
-use Rattle.scan.specs.Run.{in_run}
+use Rattle.scan.specs.Run.{in_name}
 use Rattle.scan.specs.Name.{true_word, false_word, null_word, type_word, dataset_word, proto_word, name_kind, lex_ident, directive, lex_directive}
-use Rattle.scan.specs.declared.run.Run.TheVariants as run
-use Rattle.scan.proofs.Runs.{run_boundary}
+use Rattle.scan.proofs.Runs.{name_boundary}
 use Rattle.scan.proofs.Flats.{flat_none, flat_byte, flat_run}
 use Rattle.scan.proofs.Scanned.{Plain, plain, OnLine, Ends, extent_scanned, whole_scanned, illegal_scanned}
 
@@ -39,18 +38,18 @@ unfolding is_ident_start
 no_start = refl
 
 -- a name has no newline
-name_flat : (s : List ℕ) (i : ℕ) → Flat s i → Flat s (reach (in_run run.Name) s i)
-unfolding in_run is_ident_part is_ident_start is_digit
-name_flat s = flat_run s (in_run run.Name) (λ b. refl)
+name_flat : (s : List ℕ) (i : ℕ) → Flat s i → Flat s (reach in_name s i)
+unfolding is_ident_part is_ident_start is_digit
+name_flat s = flat_run s in_name (λ b. refl)
 
 pub ident_on_line : (s : List ℕ) → is_ident_start (byte s 0) ≡ true → OnLine s (lex_ident s)
-unfolding lex_ident in_run
+unfolding lex_ident
 ident_on_line s e =
-    let n = reach (in_run run.Name) s 0 in
-    let g = reach_one (in_run run.Name) s 0 (in_text is_ident_start s 0 no_start e) (start_part (byte s 0) e) in
+    let n = reach in_name s 0 in
+    let g = reach_one in_name s 0 (in_text is_ident_start s 0 no_start e) (start_part (byte s 0) e) in
     record {
       scanned =
-          whole_scanned s n (record { some = omega arith; inside = reach_le (in_run run.Name) s 0 zero-le; between = run_boundary run.Name s 0 })
+          whole_scanned s n (record { some = omega arith; inside = reach_le in_name s 0 zero-le; between = name_boundary s 0 })
           (name_kind (take n s)) (name_plain (take n s));
       flat = name_flat s 0 (flat_none s);
     }
@@ -69,8 +68,8 @@ named_on_line w s n e f =
 pub directive_on_line : (s : List ℕ) → byte s 0 ≡ 64 → OnLine s (lex_directive s)
 unfolding lex_directive
 directive_on_line s a =
-    let n = reach (in_run run.Name) s 1 in
-    let g = reach_ge (in_run run.Name) s 1 in
+    let n = reach in_name s 1 in
+    let g = reach_ge in_name s 1 in
     let t : eqb (byte s 0) 64 ≡ true = rw a in
     let h = in_text (λ x. eqb x 64) s 0 refl t in
     let b = ascii_boundary s 0 h (omega arith) in
@@ -82,5 +81,5 @@ directive_on_line s a =
       flat = f;
     })
     (λ e. named_on_line (take (n - 1) (drop 1 s)) s n
-    (record { some = omega arith; inside = reach_le (in_run run.Name) s 1 (omega arith); between = λ c. run_boundary run.Name s 1 (b c) })
+    (record { some = omega arith; inside = reach_le in_name s 1 (omega arith); between = λ c. name_boundary s 1 (b c) })
     (name_flat s 1 f))

@@ -12,6 +12,7 @@ use lib.Seq.{get_or-take, length-take-le}
 use Rattle.base.specs.Choice.{pick}
 use Rattle.base.specs.Bytes.{byte, same_bytes}
 use Rattle.base.specs.Classes.{is_digit, is_lower_alpha, is_ident_part, is_duration_unit}
+use Rattle.base.specs.Digits.{in_digits}
 use Rattle.base.specs.Runs.{reach, past}
 use Rattle.base.proofs.Reaches.{reach_ge, reach_one}
 use Rattle.base.proofs.Walks.{past_ge}
@@ -30,10 +31,9 @@ use Rattle.go_duration.proofs.Durations.{sent_digit, sent_minus}
 use Rattle.rfc3339.specs.Instant.{date_of, is_date}
 use Rattle.rfc3339.specs.declared.parse.Instant.TheVariants as instant
 use Rattle.rfc3339.specs.declared.parse.Instant.{Instant}
-use Rattle.scan.specs.Run.{in_run, unit_piece}
+use Rattle.scan.specs.Run.{in_stamp, unit_piece}
 use Rattle.scan.specs.Number.{lex_precision, past_fraction, at_duration_unit, duration_by, lex_duration, goes_on_float, number_kind, value_end}
 use Rattle.scan.specs.Number.{lex_tail, timestamp_by, lex_timestamp, lex_digits, at_inf, is_sign, lex_number}
-use Rattle.scan.specs.declared.run.Run.TheVariants as run
 use Rattle.scan.proofs.Flats.{flat_none}
 use Rattle.scan.proofs.Runs.{one_byte, micro, micro_in, one_turn, micro_turn}
 use Rattle.scan.proofs.Goes.{Goes, goes_none, goes_then, goes_digits, goes_stamp, goes_units, goes_byte, goes_over, either_high}
@@ -107,8 +107,8 @@ module _ (s : List ℕ) where
   precision_on_line : (k : TokenKind) (e : ℕ) → Plain k → 0 < e → Goes s 0 e → OnLine s (lex_precision k s e)
   unfolding lex_precision
   precision_on_line k e p h g =
-      let n = reach (in_run run.Digits) s (e + 1) in
-      let l = reach_ge (in_run run.Digits) s (e + 1) in
+      let n = reach in_digits s (e + 1) in
+      let l = reach_ge in_digits s (e + 1) in
       pick_case (OnLine s) (eqb (byte s e) 112 && is_digit (byte s (e + 1)))
       (λ q. let d = goes_then s g
       (goes_then s (goes_over s 112 (omega arith) (omega arith) e (and_left (eqb (byte s e) 112) (is_digit (byte s (e + 1))) q)) (goes_digits s (e + 1))) in
@@ -192,19 +192,19 @@ module _ (s : List ℕ) where
   timestamp_on_line : (n : ℕ) → 0 < n → Goes s 0 n → OnLine s (lex_timestamp s n)
   unfolding lex_timestamp
   timestamp_on_line n h g =
-      let e = reach (in_run run.Stamp) s n in
+      let e = reach in_stamp s n in
       let t = goes_then s g (goes_stamp s n) in
       record {
-        scanned = run_scanned (date_of (take e s)) e refl (ends_at e (omega (arith, reach_ge (in_run run.Stamp) s n)) t);
+        scanned = run_scanned (date_of (take e s)) e refl (ends_at e (omega (arith, reach_ge in_stamp s n)) t);
         flat = run_flat (date_of (take e s)) e (t.flat (flat_none s));
       }
 
   -- the digits from i on, where there is one
   digits_on_line : (i : ℕ) → Goes s 0 i → is_digit (byte s i) ≡ true → ((f : ℕ) → i < f → Begins s f) → OnLine s (lex_digits s i)
-  unfolding lex_digits in_run
+  unfolding lex_digits
   digits_on_line i h e b =
-      let n = reach (in_run run.Digits) s i in
-      let l = reach_one (in_run run.Digits) s i (in_text is_digit s i no_digit e) e in
+      let n = reach in_digits s i in
+      let l = reach_one in_digits s i (in_text is_digit s i no_digit e) e in
       let g = goes_then s h (goes_digits s i) in
       let f = goes_fraction s n in
       pick_case (OnLine s) ((eqb i 0 && eqb n 4) && eqb (byte s n) 45)

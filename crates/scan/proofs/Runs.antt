@@ -1,4 +1,4 @@
--- For `letters_end`, `past_units` and the laws of all tokens: the pieces of a duration, one turn at a time, by cases on the byte's tests; and that each
+-- For `past_units` and the laws of all tokens: the pieces of a duration, one turn at a time, by cases on the byte's tests; and that each
 -- run of this crate ends between characters, since its tests are of ASCII bytes. Assumes nothing.
 use mathlib.Core.Path.{◌≡◌, refl, sym, ◌∙◌}
 use mathlib.Core.Bool.{Bool, true, false, not, ◌&&◌, ◌||◌}
@@ -14,8 +14,9 @@ use lib.Seq.{drop-cons, get_or-drop}
 use Rattle.base.specs.Choice.{pick}
 use Rattle.base.specs.Bytes.{byte}
 use Rattle.base.specs.Classes.{is_digit, is_lower_alpha, is_ident_start, is_ident_part, is_space}
+use Rattle.base.specs.Digits.{in_digits}
 use Rattle.base.specs.Runs.{reach, past}
-use Rattle.base.proofs.Tests.{and_left, and_right, true_false, under, over, in_text, by_cases, failed, passed}
+use Rattle.base.proofs.Tests.{and_left, and_right, true_false, over, in_text, by_cases}
 use Rattle.base.proofs.Reaches.{reach_step, reach_stop, reach_end, reach_fails}
 use Rattle.base.proofs.Walks.{past_step, past_stop, past_end}
 use Rattle.token.specs.Helpers.{Flat}
@@ -24,30 +25,9 @@ use Rattle.utf8.specs.Onward.{Boundary}
 use Rattle.utf8.specs.Check.{is_tail}
 use Rattle.utf8.proofs.Boundaries.{boundary_le, next_boundary, ascii_boundary, reach_boundary, stop_boundary}
 use Rattle.utf8.proofs.Concatenations.{ascii_no_tail}
-use Rattle.scan.specs.Run.{ends_timestamp, in_run, unit_piece}
-use Rattle.scan.specs.Helpers.{by_kind, in_letters}
-use Rattle.scan.specs.declared.run.Run.TheVariants as run
-use Rattle.scan.specs.declared.run.Run.{Run}
+use Rattle.scan.specs.Run.{ends_timestamp, in_stamp, in_line, in_body, in_name, unit_piece}
+use Rattle.scan.specs.Helpers.{in_letters}
 use Rattle.scan.proofs.Flats.{flat_byte}
-
--- a run that is not of these variants: it is one that no kind of the table tells, or one that a kind tells
-pub other_arm : (k : Run) → (k ≡ run.Name → ⊥) → (k ≡ run.Digits → ⊥) → by_kind k ≡ false
-unfolding by_kind
-other_arm run.Blank n d = refl
-other_arm run.Line n d = refl
-other_arm run.Body n d = refl
-other_arm run.Name n d = absurd (n refl)
-other_arm run.Digits n d = absurd (d refl)
-other_arm run.Stamp n d = refl
-
-pub kind_arm : (k : Run) → (k ≡ run.Blank → ⊥) → (k ≡ run.Line → ⊥) → (k ≡ run.Body → ⊥) → (k ≡ run.Stamp → ⊥) → by_kind k ≡ true
-unfolding by_kind
-kind_arm run.Blank b l o s = absurd (b refl)
-kind_arm run.Line b l o s = absurd (l refl)
-kind_arm run.Body b l o s = absurd (o refl)
-kind_arm run.Name b l o s = refl
-kind_arm run.Digits b l o s = refl
-kind_arm run.Stamp b l o s = absurd (s refl)
 
 -- a piece of one byte, and the two bytes of U+00B5, by an index into the text
 abbrev pub one_byte : List ℕ → ℕ → Bool
@@ -76,22 +56,7 @@ module _ (s : List ℕ) (i : ℕ) where
       pub piece_stop : micro s i ≡ false → past unit_piece s i ≡ i
       piece_stop e = past_stop unit_piece s i h (piece_at ∙ rw (f, e))
 
--- ---- the run of digits and letters, by the tests of `letters_end`
-module _ (a : ℕ) where
-  pub low_none : (x : Bool) → x ≡ is_digit a → not x ≡ true → a < 97 → is_digit a || is_lower_alpha a ≡ false
-  unfolding is_lower_alpha
-  low_none x e f l = rw (failed x e f) (under 97 122 a l)
-
-  pub high_none : (x : Bool) → x ≡ is_lower_alpha a → not x ≡ true → 97 ≤ a → is_digit a || is_lower_alpha a ≡ false
-  unfolding is_digit
-  high_none x e f l = rw (over 48 57 a (omega arith)) (failed x e f)
-
-  pub low_one : (x : Bool) → x ≡ is_digit a → not x ≡ false → is_digit a || is_lower_alpha a ≡ true
-  low_one x e f = rw (passed x e f)
-
-  pub high_one : (x : Bool) → x ≡ is_lower_alpha a → not x ≡ false → 97 ≤ a → is_digit a || is_lower_alpha a ≡ true
-  unfolding is_digit
-  high_one x e f l = rw (over 48 57 a (omega arith)) (passed x e f)
+-- ---- the run of digits and letters
 
 -- the pieces from its start and from its end have the same end; n bounds the bytes that are left
 letters_past : (s : List ℕ) (n i : ℕ) → length s ≤ i + n → past unit_piece s (reach in_letters s i) ≡ past unit_piece s i
@@ -177,20 +142,22 @@ clean : (p : ℕ → ℕ → Bool) → ((b a : ℕ) → 0x80 ≤ a → p a b ≡
 clean p high a b e = ascii_no_tail a (ltb-true a 0x80 (low (λ x. p x b) (high b) a (not-false (p a b) e)))
 
 -- the body of a comment, from anywhere behind a boundary
-pub body_boundary : (s : List ℕ) (i j : ℕ) → i ≤ j → j ≤ length s → Boundary s i → Boundary s (reach (in_run run.Body) s j)
-unfolding in_run
-body_boundary s i j g h b = stop_boundary (in_run run.Body) (clean (λ a c. eqb a 42 && eqb c 47) close_high) s i j g h b
+pub body_boundary : (s : List ℕ) (i j : ℕ) → i ≤ j → j ≤ length s → Boundary s i → Boundary s (reach in_body s j)
+body_boundary s i j g h b = stop_boundary in_body (clean (λ a c. eqb a 42 && eqb c 47) close_high) s i j g h b
 
--- every run from a boundary ends at one
-pub run_boundary : (k : Run) (s : List ℕ) (i : ℕ) → Boundary s i → Boundary s (reach (in_run k) s i)
-unfolding in_run
-run_boundary run.Blank s i b = reach_boundary (in_run run.Blank) (λ a c e. low is_space space_high a e) s i b
-run_boundary run.Line s i b =
-    stop_boundary (in_run run.Line) (clean (λ a c. eqb a 10) (λ c a. equal_high 10 (omega arith) a)) s i i (omega arith) (boundary_le s i b) b
-run_boundary run.Body s i b = body_boundary s i i (omega arith) (boundary_le s i b) b
-run_boundary run.Name s i b = reach_boundary (in_run run.Name) (λ a c e. low is_ident_part part_high a e) s i b
-run_boundary run.Digits s i b = reach_boundary (in_run run.Digits) (λ a c e. low is_digit digit_high a e) s i b
-run_boundary run.Stamp s i b = stop_boundary (in_run run.Stamp) (clean ends_timestamp ends_high) s i i (omega arith) (boundary_le s i b) b
+-- the other runs, from a boundary
+pub line_boundary : (s : List ℕ) (i : ℕ) → Boundary s i → Boundary s (reach in_line s i)
+line_boundary s i b =
+    stop_boundary in_line (clean (λ a c. eqb a 10) (λ c a. equal_high 10 (omega arith) a)) s i i (omega arith) (boundary_le s i b) b
+
+pub name_boundary : (s : List ℕ) (i : ℕ) → Boundary s i → Boundary s (reach in_name s i)
+name_boundary s i b = reach_boundary in_name (λ a c e. low is_ident_part part_high a e) s i b
+
+pub digits_boundary : (s : List ℕ) (i : ℕ) → Boundary s i → Boundary s (reach in_digits s i)
+digits_boundary s i b = reach_boundary in_digits (λ a c e. low is_digit digit_high a e) s i b
+
+pub stamp_boundary : (s : List ℕ) (i : ℕ) → Boundary s i → Boundary s (reach in_stamp s i)
+stamp_boundary s i b = stop_boundary in_stamp (clean ends_timestamp ends_high) s i i (omega arith) (boundary_le s i b) b
 
 -- U+00B5 is a character
 micro_cut : (s : List ℕ) (i : ℕ) → i + 1 < length s → byte s i ≡ 0xC2 → byte s (suc i) ≡ 0xB5 → drop i s ≡ 0xC2 ∷ 0xB5 ∷ drop (suc (suc i)) s

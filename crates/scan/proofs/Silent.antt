@@ -8,6 +8,7 @@ use lib.ListN.{take, drop}
 use Rattle.base.specs.Choice.{pick}
 use Rattle.base.specs.Bytes.{byte, same_bytes}
 use Rattle.base.specs.Classes.{is_digit}
+use Rattle.base.specs.Digits.{in_digits}
 use Rattle.base.specs.Runs.{reach, past}
 use Rattle.base.proofs.Tests.{pick_case}
 use Rattle.go_duration.specs.Parse.{parse_of}
@@ -18,13 +19,12 @@ use Rattle.rfc3339.specs.declared.parse.Instant.{Instant}
 use Rattle.rfc3339.specs.declared.parse.Instant.TheVariants as instant
 use Rattle.token.specs.declared.kind.TokenKind.{TokenKind}
 use Rattle.lexeme.specs.declared.Lexeme.{Lexeme}
-use Rattle.scan.specs.Run.{in_run, unit_piece}
+use Rattle.scan.specs.Run.{in_stamp, in_name, unit_piece}
 use Rattle.scan.specs.Comment.{lex_line_comment}
 use Rattle.scan.specs.Name.{type_word, dataset_word, proto_word, lex_ident, directive, lex_directive}
 use Rattle.scan.specs.Number.{lex_precision, past_fraction, at_duration_unit, duration_by, lex_duration, goes_on_float, number_kind, value_end, lex_tail}
 use Rattle.scan.specs.Number.{timestamp_by, lex_timestamp, lex_digits, at_inf, is_sign, lex_number}
 use Rattle.scan.specs.Other.{lex_other}
-use Rattle.scan.specs.declared.run.Run.TheVariants as run
 
 abbrev Silent : Lexeme → Type 0
 Silent r = r.reports ≡ 0
@@ -51,7 +51,7 @@ module _ (s : List ℕ) where
   pub directive_silent : (lex_directive s).reports ≡ 0
   unfolding lex_directive
   directive_silent =
-      let n = reach (in_run run.Name) s 1 in
+      let n = reach in_name s 1 in
       pick_case Silent (eqb n 1) (λ _. refl) (λ _. named_silent (take (n - 1) (drop 1 s)) n)
 
   precision_silent : (k : TokenKind) (e : ℕ) → (lex_precision k s e).reports ≡ 0
@@ -76,12 +76,12 @@ module _ (s : List ℕ) where
 
   timestamp_silent : (n : ℕ) → (lex_timestamp s n).reports ≡ 0
   unfolding lex_timestamp
-  timestamp_silent n = let e = reach (in_run run.Stamp) s n in date_silent (date_of (take e s)) e
+  timestamp_silent n = let e = reach in_stamp s n in date_silent (date_of (take e s)) e
 
   digits_silent : (i : ℕ) → (lex_digits s i).reports ≡ 0
   unfolding lex_digits
   digits_silent i =
-      let n = reach (in_run run.Digits) s i in
+      let n = reach in_digits s i in
       pick_case Silent ((eqb i 0 && eqb n 4) && eqb (byte s n) 45) (λ _. timestamp_silent n) (λ _. tail_silent n (past_fraction s n))
 
   pub number_silent : (lex_number s).reports ≡ 0

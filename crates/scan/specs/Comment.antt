@@ -9,14 +9,13 @@ use Rattle.lexeme.specs.Lexeme.{whole, extent, illegal, Note, note_at_start}
 use Rattle.lexeme.specs.declared.Lexeme.{Lexeme}
 use Rattle.lexeme.specs.declared.Mode.{Mode}
 use Rattle.lexeme.specs.declared.Mode.TheVariants.{Strict, Tolerant}
-use Rattle.scan.specs.Run.{in_run}
-use Rattle.scan.specs.declared.run.Run.TheVariants as run
+use Rattle.scan.specs.Run.{in_line, in_body}
 
 -- Types that other files explain: `TokenKind` in token/specs/Kind.antt; `Lexeme`, `Mode` in lexeme/specs/Lexeme.antt; `Run` in Run.antt.
 
 -- `lex_line_comment`: `#` or `//` to the end of the line
 unfoldable pub lex_line_comment : List ℕ → Lexeme
-lex_line_comment s = whole K.Comment (reach (in_run run.Line) s 0)
+lex_line_comment s = whole K.Comment (reach in_line s 0)
 
 -- document 01: "Strict open block comments stop one byte before the end .. never before their content", and after the character there
 unfoldable pub open_end : List ℕ → ℕ
@@ -24,7 +23,7 @@ open_end s = char_end s (pick (leb 3 (length s)) (length s - 1) 2)
 
 -- where the comment's body ends: at `*/`, or at the end of the text
 unfoldable pub body_end : List ℕ → ℕ
-body_end s = reach (in_run run.Body) s 2
+body_end s = reach in_body s 2
 
 -- "2 open block comment"; the tolerant reader takes all that is left and reports it
 unfoldable pub open_comment : Mode → List ℕ → Lexeme

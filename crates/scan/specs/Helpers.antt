@@ -1,23 +1,11 @@
--- Helper definitions, for proofs and inner contracts alone: which runs the table of byte kinds tells, the letters of a duration, and the reason of a
--- bytes literal's report.
-use Rattle.std.specs.Prelude.{Bool, true, false, ◌||◌, ℕ}
+-- Helper definitions, for proofs and inner contracts alone: the letters of a duration, and the reason of a bytes literal's report.
+use Rattle.std.specs.Prelude.{Bool, ◌||◌, ℕ}
 use Rattle.base.specs.Classes.{is_digit, is_lower_alpha}
 use Rattle.token.specs.Reason as reasons
-use Rattle.scan.specs.declared.run.Run.{Run}
-use Rattle.scan.specs.declared.run.Run.TheVariants as run
 use Rattle.scan.specs.declared.bytes.Stop.{Stop}
 use Rattle.scan.specs.declared.bytes.Stop.TheVariants as stop
 
--- Types that other files explain: `Run` in Run.antt; `Stop` in Bytes.antt.
-
--- the bytes of the run are of one kind of the table
-unfoldable pub by_kind : Run → Bool
-by_kind run.Blank = false
-by_kind run.Line = false
-by_kind run.Body = false
-by_kind run.Name = true
-by_kind run.Digits = true
-by_kind run.Stamp = false
+-- Types that other files explain: `Stop` in Bytes.antt.
 
 -- the run of digits and lower-case letters
 abbrev pub in_letters : ℕ → ℕ → Bool

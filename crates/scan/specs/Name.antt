@@ -9,8 +9,7 @@ use Rattle.token.specs.declared.kind.TokenKind.{TokenKind}
 use Rattle.token.specs.declared.kind.TokenKind.TheVariants as K
 use Rattle.lexeme.specs.Lexeme.{whole, extent, illegal}
 use Rattle.lexeme.specs.declared.Lexeme.{Lexeme}
-use Rattle.scan.specs.Run.{in_run}
-use Rattle.scan.specs.declared.run.Run.TheVariants as run
+use Rattle.scan.specs.Run.{in_name}
 
 -- Types that other files explain: `TokenKind` in token/specs/Kind.antt; `Lexeme` in lexeme/specs/Lexeme.antt; `Run` in Run.antt.
 
@@ -40,7 +39,7 @@ name_kind w = pick (same_bytes w true_word || same_bytes w false_word) K.Bool (p
 
 -- `lex_ident`: the run of a name's bytes
 unfoldable pub lex_ident : List ℕ → Lexeme
-lex_ident s = whole (name_kind (take (reach (in_run run.Name) s 0) s)) (reach (in_run run.Name) s 0)
+lex_ident s = whole (name_kind (take (reach in_name s 0) s)) (reach in_name s 0)
 
 -- the directive of the name w, of n bytes with its `@`; "An AtDirective's value omits `@`"
 unfoldable pub directive : List ℕ → ℕ → Lexeme
@@ -52,5 +51,5 @@ directive w n =
 -- `lex_directive`: "15 `@` without name", or the directive of the name
 unfoldable pub lex_directive : List ℕ → Lexeme
 lex_directive s =
-    let n = reach (in_run run.Name) s 1 in
+    let n = reach in_name s 1 in
     pick (eqb n 1) (illegal reasons.at_without_name 0 1) (directive (take (n - 1) (drop 1 s)) n)

@@ -4,6 +4,7 @@ use Prim.Native.Char.{code}
 use Rattle.base.specs.Choice.{pick}
 use Rattle.base.specs.Bytes.{byte}
 use Rattle.base.specs.Classes.{is_digit, is_ident_part, is_duration_unit}
+use Rattle.base.specs.Digits.{in_digits}
 use Rattle.base.specs.Runs.{reach, past}
 use Rattle.go_duration.specs.Parse.{parse_of}
 use Rattle.go_duration.specs.declared.parse.Parsed.{Parsed}
@@ -16,8 +17,7 @@ use Rattle.token.specs.declared.kind.TokenKind.{TokenKind}
 use Rattle.token.specs.declared.kind.TokenKind.TheVariants as K
 use Rattle.lexeme.specs.Lexeme.{whole, illegal, precise, duration}
 use Rattle.lexeme.specs.declared.Lexeme.{Lexeme}
-use Rattle.scan.specs.Run.{in_run, unit_piece}
-use Rattle.scan.specs.declared.run.Run.TheVariants as run
+use Rattle.scan.specs.Run.{in_stamp, unit_piece}
 
 -- Types that other files explain: `Parsed` in go_duration/specs/Parse.antt; `Instant` in rfc3339/specs/Instant.antt; `TokenKind` in
 -- token/specs/Kind.antt; `Lexeme` in lexeme/specs/Lexeme.antt; `Run` in Run.antt.
@@ -25,11 +25,11 @@ use Rattle.scan.specs.declared.run.Run.TheVariants as run
 -- `lex_precision`: a number that ends at e; its precision is `p` and one or more digits, or nothing
 unfoldable pub lex_precision : TokenKind → List ℕ → ℕ → Lexeme
 lex_precision k s e =
-    pick (eqb (byte s e) (code "p") && is_digit (byte s (e + 1))) (precise k e (reach (in_run run.Digits) s (e + 1))) (whole k e)
+    pick (eqb (byte s e) (code "p") && is_digit (byte s (e + 1))) (precise k e (reach in_digits s (e + 1))) (whole k e)
 
 -- past a point and digits or none
 unfoldable pub past_point : List ℕ → ℕ → ℕ
-past_point s i = pick (eqb (byte s i) (code ".")) (reach (in_run run.Digits) s (i + 1)) i
+past_point s i = pick (eqb (byte s i) (code ".")) (reach in_digits s (i + 1)) i
 
 -- past a sign or nothing
 unfoldable pub past_sign : List ℕ → ℕ → ℕ
@@ -37,11 +37,11 @@ past_sign s i = pick (eqb (byte s i) (code "+") || eqb (byte s i) (code "-")) (i
 
 -- past `e` or `E`, a sign or none, and digits or none
 unfoldable pub past_exponent : List ℕ → ℕ → ℕ
-past_exponent s i = pick (eqb (byte s i) (code "e") || eqb (byte s i) (code "E")) (reach (in_run run.Digits) s (past_sign s (i + 1))) i
+past_exponent s i = pick (eqb (byte s i) (code "e") || eqb (byte s i) (code "E")) (reach in_digits s (past_sign s (i + 1))) i
 
 -- past a point and at least one digit, or nothing
 unfoldable pub past_fraction : List ℕ → ℕ → ℕ
-past_fraction s i = pick (eqb (byte s i) (code ".") && is_digit (byte s (i + 1))) (reach (in_run run.Digits) s (i + 1)) i
+past_fraction s i = pick (eqb (byte s i) (code ".") && is_digit (byte s (i + 1))) (reach in_digits s (i + 1)) i
 
 -- `at_duration_unit`: the first byte of a unit, or U+00B5
 unfoldable pub at_duration_unit : ℕ → ℕ → Bool
@@ -81,12 +81,12 @@ timestamp_by instant.NoDate n = illegal reasons.bad_timestamp 0 n
 
 -- `lex_timestamp`, the first digits ending at n: the run is judged by itself
 unfoldable pub lex_timestamp : List ℕ → ℕ → Lexeme
-lex_timestamp s n = let e = reach (in_run run.Stamp) s n in timestamp_by (date_of (take e s)) e
+lex_timestamp s n = let e = reach in_stamp s n in timestamp_by (date_of (take e s)) e
 
 -- the digits from i on, and what follows them; document 01: "An unsigned run of exactly four digits before `-` starts a timestamp run"
 unfoldable pub lex_digits : List ℕ → ℕ → Lexeme
 lex_digits s i =
-    let n = reach (in_run run.Digits) s i in
+    let n = reach in_digits s i in
     pick ((eqb i 0 && eqb n 4) && eqb (byte s n) (code "-")) (lex_timestamp s n) (lex_tail s n (past_fraction s n))
 
 -- `inf` after a sign, where no name byte follows

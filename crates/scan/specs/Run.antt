@@ -4,11 +4,6 @@ use Prim.Native.Char.{code}
 use Rattle.base.specs.Choice.{pick}
 use Rattle.base.specs.Bytes.{byte}
 use Rattle.base.specs.Classes.{is_digit, is_lower_alpha, is_ident_part, is_space}
-use Rattle.scan.specs.declared.run.Run.{Run}
-use Rattle.scan.specs.declared.run.Run.TheVariants as run
-
--- Types of the code (src/run.rt). `Run`, which run: `Blank`, between tokens; `Line`, to the end of the line; `Body`, of a block comment; `Name`;
--- `Digits`; `Stamp`, a timestamp.
 
 -- `lex_timestamp`: a blank, a newline, `,` `]` `}` `)` `#`, or the start of a comment ends a timestamp
 unfoldable pub ends_timestamp : ℕ → ℕ → Bool
@@ -16,14 +11,25 @@ ends_timestamp a b =
     ((((((is_space a || eqb a (code "\n")) || eqb a (code ",")) || eqb a (code "]")) || eqb a (code "}")) || eqb a (code ")")) || eqb a (code "#"))
     || (eqb a (code "/") && (eqb b (code "/") || eqb b (code "*")))
 
--- whether a byte, with the byte after it, belongs to a run
-unfoldable pub in_run : Run → ℕ → ℕ → Bool
-in_run run.Blank a b = is_space a
-in_run run.Line a b = not (eqb a (code "\n"))
-in_run run.Body a b = not (eqb a (code "*") && eqb b (code "/"))
-in_run run.Name a b = is_ident_part a
-in_run run.Digits a b = is_digit a
-in_run run.Stamp a b = not (ends_timestamp a b)
+-- a timestamp
+abbrev pub in_stamp : ℕ → ℕ → Bool
+in_stamp a b = not (ends_timestamp a b)
+
+-- the blanks between tokens
+abbrev pub in_blank : ℕ → ℕ → Bool
+in_blank a b = is_space a
+
+-- the bytes to the end of the line
+abbrev pub in_line : ℕ → ℕ → Bool
+in_line a b = not (eqb a (code "\n"))
+
+-- the body of a block comment
+abbrev pub in_body : ℕ → ℕ → Bool
+in_body a b = not (eqb a (code "*") && eqb b (code "/"))
+
+-- the bytes of a name
+abbrev pub in_name : ℕ → ℕ → Bool
+in_name a b = is_ident_part a
 
 -- `lex_duration`: the piece of a duration at the front: a digit, a lower-case letter, a point before a digit; U+00B5. U+03BC is none
 unfoldable pub unit_piece : List ℕ → ℕ

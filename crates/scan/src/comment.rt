@@ -2,7 +2,8 @@
 ghost use Rattle.std.specs.Prelude.{◌≡◌};
 ghost use Rattle.scan.specs.Comment.{lex_line_comment, open_end, open_comment, lex_block_comment};
 
-use crate::run::{Run, reach_long};
+use crate::run::{Body, Line};
+use base::runs::reach_long;
 use lexeme::{Lexeme, Mode};
 use token::kind::TokenKind;
 use token::reason;
@@ -12,7 +13,7 @@ use utf8::check::char_end;
 pub fn lex_line_comment(s: &[u8]) -> Lexeme
     ensures { result ≡ lex_line_comment s.now }
 {
-    lexeme::whole(TokenKind::Comment, reach_long(Run::Line, s, 0))
+    lexeme::whole(TokenKind::Comment, reach_long(Line, s, 0))
 }
 
 // Where strict reading stops in an open block comment.
@@ -39,7 +40,7 @@ fn open_comment(s: &[u8], mode: Mode) -> Lexeme
 pub fn lex_block_comment(s: &[u8], mode: Mode) -> Lexeme
     ensures { result ≡ lex_block_comment mode s.now }
 {
-    let end = reach_long(Run::Body, s, 2);
+    let end = reach_long(Body, s, 2);
     if end < s.len() {
         return lexeme::whole(TokenKind::Comment, end + 2);
     }

@@ -3,7 +3,8 @@ ghost use Rattle.std.specs.Prelude.{◌≡◌, ◌≤◌, length};
 ghost use Rattle.base.specs.Bytes.{same_bytes};
 ghost use Rattle.scan.specs.Name.{name_kind, lex_ident, directive, lex_directive};
 
-use crate::run::{Run, reach_run};
+use crate::run::Name;
+use base::runs::reach_run;
 use lexeme::Lexeme;
 use token::kind::TokenKind;
 use token::reason;
@@ -32,7 +33,7 @@ fn name_kind(name: &[u8]) -> TokenKind
 pub fn lex_ident(s: &[u8]) -> Lexeme
     ensures { result ≡ lex_ident s.now }
 {
-    let n = reach_run(Run::Name, s, 0);
+    let n = reach_run(Name, s, 0);
     lexeme::whole(name_kind(&s[..n]), n)
 }
 
@@ -58,7 +59,7 @@ pub fn lex_directive(s: &[u8]) -> Lexeme
     requires { 1 ≤ length s.now }
     ensures { result ≡ lex_directive s.now }
 {
-    let n = reach_run(Run::Name, s, 1);
+    let n = reach_run(Name, s, 1);
     if n == 1 {
         return lexeme::illegal(reason::AT_WITHOUT_NAME, 0, 1);
     }

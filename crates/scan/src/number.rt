@@ -3,9 +3,11 @@ ghost use Rattle.std.specs.Prelude.{◌≡◌, ◌+◌, ◌≤◌, length};
 ghost use Rattle.scan.specs.Number.{lex_precision, past_point, past_sign, past_exponent, past_fraction, at_duration_unit, lex_duration};
 ghost use Rattle.scan.specs.Number.{goes_on_float, number_kind, value_end, lex_tail, lex_timestamp, lex_digits, at_inf, lex_number};
 
-use crate::run::{Run, past_units, reach_run};
+use crate::run::{Stamp, past_units};
 use base::class::{begins_unit, is_digit, is_ident_part};
+use base::digits::Digits;
 use base::peek;
+use base::runs::reach_run;
 use go_duration::parse::{Parsed, parse};
 use lexeme::Lexeme;
 use rfc3339::parse::Instant;
@@ -19,7 +21,7 @@ fn lex_precision(kind: TokenKind, s: &[u8], end: usize) -> Lexeme
 {
     if peek(s, end) == b'p' {
         if is_digit(peek(s, end + 1)) {
-            return lexeme::precise(kind, end, reach_run(Run::Digits, s, end + 1));
+            return lexeme::precise(kind, end, reach_run(Digits, s, end + 1));
         }
     }
     lexeme::whole(kind, end)
@@ -31,7 +33,7 @@ fn past_point(s: &[u8], i: usize) -> usize
     ensures { result ≡ past_point s.now i }
 {
     if peek(s, i) == b'.' {
-        return reach_run(Run::Digits, s, i + 1);
+        return reach_run(Digits, s, i + 1);
     }
     i
 }
@@ -55,7 +57,7 @@ fn past_exponent(s: &[u8], i: usize) -> usize
 {
     let b = peek(s, i);
     if (b == b'e') | (b == b'E') {
-        return reach_run(Run::Digits, s, past_sign(s, i + 1));
+        return reach_run(Digits, s, past_sign(s, i + 1));
     }
     i
 }
@@ -67,7 +69,7 @@ fn past_fraction(s: &[u8], i: usize) -> usize
 {
     if peek(s, i) == b'.' {
         if is_digit(peek(s, i + 1)) {
-            return reach_run(Run::Digits, s, i + 2);
+            return reach_run(Digits, s, i + 2);
         }
     }
     i
@@ -139,7 +141,7 @@ fn lex_timestamp(s: &[u8], n: usize) -> Lexeme
     requires { n ≤ length s.now }
     ensures { result ≡ lex_timestamp s.now n }
 {
-    let len = reach_run(Run::Stamp, s, n);
+    let len = reach_run(Stamp, s, n);
     match rfc3339::parse::parse(&s[..len]) {
         Instant::Date { .. } => lexeme::whole(TokenKind::Timestamp, len),
         Instant::NoDate => lexeme::illegal(reason::BAD_TIMESTAMP, 0, len),
@@ -151,7 +153,7 @@ fn lex_digits(s: &[u8], at: usize) -> Lexeme
     requires { at ≤ length s.now }
     ensures { result ≡ lex_digits s.now at }
 {
-    let n = reach_run(Run::Digits, s, at);
+    let n = reach_run(Digits, s, at);
     if (at == 0) & (n == 4) & (peek(s, n) == b'-') {
         return lex_timestamp(s, n);
     }

@@ -20,7 +20,6 @@ use Rattle.go_duration.specs.Parse.{parse_of}
 use Rattle.go_duration.specs.Written.{WrittenPart, part_bytes, IsPart}
 use Rattle.scan.specs.Run.{in_run, unit_piece}
 use Rattle.scan.specs.Number.{past_fraction, at_duration_unit, duration_by, lex_duration, lex_tail, lex_digits, at_inf, lex_number}
-use Rattle.scan.specs.declared.run.Run.TheVariants as run
 use Rattle.suggest.proofs.PartCuts.{Lexable}
 use Rattle.suggest.proofs.PieceWalks.{no_unit, unit_plain, unit_taken}
 
@@ -71,12 +70,11 @@ module _ (s : List ℕ) (i : ℕ) (p : WrittenPart) (r : List ℕ) (d : drop i s
   unfolding is_digit
   middle_no_digit = by_cases p.point (λ e. rw e) (λ e. rw e unit_no_digit)
 
-  digits_end : reach (in_run run.Digits) s i ≡ n
-  unfolding in_run
+  digits_end : reach in_digits s i ≡ n
   digits_end = reach_front is_digit s i p.whole (middle ++ (p.unit ++ r)) at_whole part.whole_digits middle_no_digit
 
   -- no timestamp begins so
-  pub no_minus : eqb (byte s (reach (in_run run.Digits) s i)) 45 ≡ false
+  pub no_minus : eqb (byte s (reach in_digits s i)) 45 ≡ false
   no_minus =
       rw (digits_end, byte_at s (middle ++ (p.unit ++ r)) n at_middle)
       (by_cases p.point (λ e. rw e) (λ e. rw e (or_right digit_or_point (eqb (byte (p.unit ++ r) 0) 45) plain)))
@@ -90,7 +88,7 @@ module _ (s : List ℕ) (i : ℕ) (p : WrittenPart) (r : List ℕ) (d : drop i s
     at_unit = drop_front s middle (p.unit ++ r) n at_middle
 
     fraction_end_lem : past_fraction s n ≡ f
-    unfolding past_fraction in_run
+    unfolding past_fraction
     fraction_end_lem =
         rw (byte_at s (middle ++ (p.unit ++ r)) n at_middle, byte_next s (middle ++ (p.unit ++ r)) n at_middle)
         (by_cases p.point
@@ -115,7 +113,7 @@ module _ (s : List ℕ) (i : ℕ) (p : WrittenPart) (r : List ℕ) (d : drop i s
 
     pub lexed_digits : (e : ℕ) → i + length (part_bytes p) + walk unit_piece 0 r ≡ e → lex_digits s i ≡ duration_by (parse_of (take e s)) e
     unfolding lex_digits lex_tail lex_duration
-    lexed_digits e q = rw (no_minus, and-false (eqb i 0 && eqb (reach (in_run run.Digits) s i) 4), digits_end, fraction_end_lem, lexed_unit, pieces_end, q)
+    lexed_digits e q = rw (no_minus, and-false (eqb i 0 && eqb (reach in_digits s i) 4), digits_end, fraction_end_lem, lexed_unit, pieces_end, q)
 
 -- ---- the sign
 

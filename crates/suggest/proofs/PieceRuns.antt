@@ -23,7 +23,6 @@ use Rattle.go_duration.specs.declared.parse.Parsed.TheVariants as parsed
 use Rattle.scan.specs.Run.{in_run, unit_piece}
 use Rattle.scan.specs.Number.{lex_precision, past_fraction, at_duration_unit, duration_by, lex_duration, goes_on_float, number_kind, value_end}
 use Rattle.scan.specs.Number.{lex_tail, lex_digits, at_inf, is_sign, lex_number}
-use Rattle.scan.specs.declared.run.Run.TheVariants as run
 
 -- a byte and the next that can stand in a Duration: no 0xCE, and a digit behind a point
 abbrev pub fit : ℕ → ℕ → Bool
@@ -79,9 +78,8 @@ module _ (s : List ℕ) where
   fit_then : {i j e : ℕ} → Fit s i j → Fit s j e → Fit s i e
   fit_then {i} {j} {e} f g k h l = by_cases (ltb k j) (λ q. f k h (ltb-true k j q)) (λ q. g k (ltb-false k j q) l)
 
-  digits_fit : (i : ℕ) → Fit s i (reach (in_run run.Digits) s i)
-  unfolding in_run
-  digits_fit i k h l = digit_fit (byte s k) (byte s (k + 1)) (reach_all (in_run run.Digits) s i k h l)
+  digits_fit : (i : ℕ) → Fit s i (reach in_digits s i)
+  digits_fit i k h l = digit_fit (byte s k) (byte s (k + 1)) (reach_all in_digits s i k h l)
 
   fraction_fit : (i : ℕ) → Fit s i (past_fraction s i)
   unfolding past_fraction
@@ -126,11 +124,11 @@ module _ (s : List ℕ) where
       (λ q. precision_fits (ltb n f || goes_on_float (byte s f)) (value_end s f (ltb n f || goes_on_float (byte s f))))
 
   -- digits that no `-` follows
-  lex_fits : (i : ℕ) → Fit s 0 i → (eqb i 0 && eqb (reach (in_run run.Digits) s i) 4) && eqb (byte s (reach (in_run run.Digits) s i)) 45 ≡ false
+  lex_fits : (i : ℕ) → Fit s 0 i → (eqb i 0 && eqb (reach in_digits s i) 4) && eqb (byte s (reach in_digits s i)) 45 ≡ false
       → Fits (lex_digits s i)
   unfolding lex_digits
   lex_fits i g t =
-      let n = reach (in_run run.Digits) s i in
+      let n = reach in_digits s i in
       rw t (tail_fits n (past_fraction s n) (fit_then g (fit_then (digits_fit i) (fraction_fit n))))
 
   -- what a Duration is
@@ -141,7 +139,7 @@ module _ (s : List ℕ) where
   abbrev Thus : Lexeme → Type 0
   Thus r = is_duration r.kind ≡ true → Begun r
 
-  pub number_fits : is_digit (byte s 0) || eqb (byte s 0) 45 ≡ true → (eqb (byte s 0) 45 ≡ false → eqb (byte s (reach (in_run run.Digits) s 0)) 45 ≡ false)
+  pub number_fits : is_digit (byte s 0) || eqb (byte s 0) 45 ≡ true → (eqb (byte s 0) 45 ≡ false → eqb (byte s (reach in_digits s 0)) 45 ≡ false)
       → is_duration (lex_number s).kind ≡ true → Begun (lex_number s)
   unfolding lex_number kind_number
   number_fits h t =
@@ -157,6 +155,6 @@ module _ (s : List ℕ) where
           sign k h l = let z : k ≡ 0 = omega arith in rw (z, eqb-true (byte s 0) 45 m)
       go false m q e =
           record {
-            fits = lex_fits 0 (λ k h l. absurd (omega arith)) (rw (t m) (and-false (eqb (reach (in_run run.Digits) s 0) 4))) e;
+            fits = lex_fits 0 (λ k h l. absurd (omega arith)) (rw (t m) (and-false (eqb (reach in_digits s 0) 4))) e;
             digit = rw m (or_case (is_digit (byte s 0)) (eqb (byte s 0) 45) h (λ d. d) (λ d. true_false (eqb (byte s 0) 45) d m));
           }

@@ -26,7 +26,6 @@ use Rattle.go_duration.specs.Written.{WrittenPart, part_bytes, Parts, none, more
 use Rattle.go_duration.proofs.Durations as durations
 use Rattle.scan.specs.Run.{in_run}
 use Rattle.scan.specs.Number.{lex_number}
-use Rattle.scan.specs.declared.run.Run.TheVariants as run
 use Rattle.scan.proofs.Scanned.{DurationRun, Scanned}
 use Rattle.scan.proofs.Numbers.{number_on_line}
 use Rattle.lexer.specs.Token.{start_at, in_blanks}
@@ -59,7 +58,7 @@ other_duration e = zero_one cc
 
 -- parts begin no timestamp
 no_stamp : {ps : List WrittenPart} {t : List ℕ} → Parts ps t → 0 < length ps → (s b : List ℕ) → s ≡ t ++ b
-    → eqb (byte s (reach (in_run run.Digits) s 0)) 45 ≡ false
+    → eqb (byte s (reach in_digits s 0)) 45 ≡ false
 no_stamp none h s b e = absurd (not-suc-le-zero h)
 no_stamp (more {p = p} {s = t} i q) h s b e = no_minus s 0 p (t ++ b) (e ∙ append_assoc (part_bytes p) t b) i
 

@@ -15,12 +15,12 @@ use mir.Syntax.{w64}
 use mir.Val.{Fits, bool_byte}
 use Rattle.base.specs.Bytes.{byte, within}
 use Rattle.base.specs.Runs.{past}
-use Rattle.base.specs.Blocks.{all_pass, all_pairs}
-use Rattle.base.proofs.Blocks.{over_pairs, ahead_first, ahead_block}
+use Rattle.base.specs.Blocks.{all_pairs}
+use Rattle.base.proofs.Blocks.{over_pairs, ahead_first, ahead_pairs}
 use Rattle.base.proofs.Tests.{and_left, and_right, by_cases, true_false, within_low, within_high, over, inside, or_case}
 use Rattle.base.proofs.Walks.{past_step}
 use Rattle.utf8.specs.Grammar.{char_size}
-use Rattle.utf8.specs.Helpers.{is_ascii, in_ascii, in_short}
+use Rattle.utf8.specs.Helpers.{in_ascii, in_short}
 use Rattle.utf8.specs.Check.{is_tail}
 use Rattle.utf8.specs.Onward.{Onward}
 use Rattle.utf8.proofs.Runs.{ascii_past, reach_past}
@@ -86,9 +86,9 @@ module _ (s : List ℕ) where
 
 module _ (s : List ℕ) (at i n : ℕ) (u : Onward s at i) (h : n < length s - i) where
   -- a window of ASCII bytes
-  pub ascii_window : (b : Bool) → b ≡ all_pass is_ascii (take (i + n - i) (drop i s)) → b ≡ true → Onward s at (i + n)
+  pub ascii_window : (b : Bool) → b ≡ all_pairs in_ascii (take (i + n + 1 - i) (drop i s)) → b ≡ true → Onward s at (i + n)
   ascii_window b e y =
-      let a = ahead_block is_ascii in_ascii (λ a b t. t) s i i n (ahead_first in_ascii s i u.inside) (omega arith) b e y in
+      let a = ahead_pairs in_ascii s i i n (ahead_first in_ascii s i u.inside) h b e y in
       let p = reach_past in_ascii (λ a b t. t) s in
       record { later = omega (arith, u.later); inside = a.inside; same = sym (p (i + n)) ∙ ap (past char_size s) a.same ∙ p i ∙ u.same }
 

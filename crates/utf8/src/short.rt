@@ -1,32 +1,22 @@
 // Characters of one or two bytes: a window of bytes is tested at once.
 ghost use Rattle.std.specs.Prelude.{◌≡◌, ◌≤◌, length};
-ghost use Rattle.base.specs.Blocks.{all_pairs};
 ghost use Rattle.utf8.specs.Helpers.{in_short};
 ghost use Rattle.utf8.specs.Onward.{Onward};
 
-use crate::ascii::all_ascii;
+use crate::ascii::Ascii;
 use crate::character::is_tail;
-use base::find::WINDOW;
+use base::runs::{Run, WINDOW, all};
 
-// Whether the byte `a`, with `b` after it, can stand among characters of one or two bytes: a UTF8-tail follows the first byte of two, and no
-// other byte.
-fn in_short(a: u8, b: u8) -> bool
-    ensures { result ≡ in_short a b }
-{
-    ((0xC2 <= a) & (a <= 0xDF) & is_tail(b)) | ((a < 0xC0) & !is_tail(b))
-}
+// The bytes that can stand among characters of one or two bytes: a UTF8-tail follows the first byte of two, and no other byte.
+#[derive(Clone, Copy)]
+struct Short;
 
-// Whether each byte but the last stands so. It looks at every byte, so that several can be tested by one instruction.
-fn all_short(s: &[u8]) -> bool
-    ensures { result ≡ all_pairs in_short s.now }
-{
-    let mut all = true;
-    let mut i = 1;
-    while i < s.len() {
-        all = all & in_short(s[i - 1], s[i]);
-        i += 1;
+impl Run for Short {
+    ghost has = { λ _. in_short };
+
+    fn has(self, a: u8, b: u8) -> bool {
+        ((0xC2 <= a) & (a <= 0xDF) & is_tail(b)) | ((a < 0xC0) & !is_tail(b))
     }
-    all
 }
 
 // The end of the windows from `at` on that have only characters of one or two bytes. Each is tested with the byte after it, which ends the
@@ -39,9 +29,10 @@ pub fn past_short(text: &[u8], at: usize) -> usize
     while WINDOW < text.len() - i {
         let end = i + WINDOW;
         let next = end + 1;
-        if all_ascii(&text[i..end]) {
+        let window = &text[i..next];
+        if all(Ascii, window) {
             i = end;
-        } else if !is_tail(text[i]) & all_short(&text[i..next]) {
+        } else if !is_tail(text[i]) & all(Short, window) {
             i = end + (is_tail(text[end]) as usize);
         } else {
             return i;

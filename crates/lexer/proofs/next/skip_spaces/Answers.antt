@@ -5,5 +5,5 @@ use Rattle.lexer.specs.Token.{start_at}
 use Rattle.lexer.proofs.next.skip_spaces.Goals as goal
 
 pub returns : goal.returns
-unfolding start_at in_run
+unfolding start_at
 returns c = search rules

@@ -6,14 +6,13 @@ use lib.ListN.{length}
 use Rattle.base.specs.Runs.{reach}
 use Rattle.base.proofs.Reaches.{reach_le}
 use Rattle.scan.specs.Number.{lex_digits}
-use Rattle.scan.specs.Run.{in_run}
-use Rattle.scan.specs.declared.run.Run.TheVariants as run
+use Rattle.base.specs.Digits.{in_digits}
 use Rattle.scan.proofs.Goes.{goes_fraction}
 use Rattle.scan.proofs.number.lex_digits.Goals as goal
 
 -- the digits end in the text
-digits_in : (s : List ℕ) (i : ℕ) {n : ℕ} → n ≡ reach (in_run run.Digits) s i → i ≤ length s → n ≤ length s
-digits_in s i e h = rw e (reach_le (in_run run.Digits) s i h)
+digits_in : (s : List ℕ) (i : ℕ) {n : ℕ} → n ≡ reach in_digits s i → i ≤ length s → n ≤ length s
+digits_in s i e h = rw e (reach_le in_digits s i h)
 
 pub lex_timestamp-requires : goal.lex_timestamp-requires
 lex_timestamp-requires c = digits_in _ _ c.reach_run-n.ensures c.requires

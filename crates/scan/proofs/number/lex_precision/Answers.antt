@@ -5,12 +5,12 @@ use native.Mathlib.Numerals.{lt-add-one}
 use borrow.Author.Tests.{ne_eqb}
 use Rattle.base.proofs.Reaches.{reach_ge}
 use Rattle.scan.specs.Number.{lex_precision}
-use Rattle.scan.specs.Run.{in_run}
+use Rattle.base.specs.Digits.{in_digits}
 use Rattle.scan.proofs.number.lex_precision.Goals as goal
 use Rattle.scan.proofs.number.lex_precision.Goals.{then-peek-eq112+else-is_digit, else-peek-eq112}
 
 pub precise-requires : goal.precise-requires
-precise-requires c = rw c.reach_run.ensures (lt_of_lt_of_le (lt-add-one _) (reach_ge (in_run _) _ _))
+precise-requires c = rw c.reach_run.ensures (lt_of_lt_of_le (lt-add-one _) (reach_ge in_digits _ _))
 
 pub returns-then-is_digit : goal.returns-then-is_digit
 unfolding lex_precision

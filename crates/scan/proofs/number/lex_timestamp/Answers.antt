@@ -2,8 +2,8 @@
 use mathlib.Core.Path.{sym}
 use lib.Seq.{length-take-le}
 use Rattle.base.proofs.Reaches.{reach_le}
-use Rattle.scan.specs.Run.{in_run}
+use Rattle.scan.specs.Run.{in_stamp}
 use Rattle.scan.proofs.number.lex_timestamp.Goals as goal
 
 pub slice_bounds-parse-end : goal.slice_bounds-parse-end
-slice_bounds-parse-end c = sym (length-take-le _ _ (rw c.reach_run-len.ensures (reach_le (in_run _) _ _ c.requires)))
+slice_bounds-parse-end c = sym (length-take-le _ _ (rw c.reach_run-len.ensures (reach_le in_stamp _ _ c.requires)))

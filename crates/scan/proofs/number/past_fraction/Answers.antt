@@ -10,17 +10,15 @@ use Rattle.base.specs.Classes.{is_digit}
 use Rattle.base.specs.Runs.{reach}
 use Rattle.base.proofs.Tests.{in_text, no_digit}
 use Rattle.base.proofs.Reaches.{reach_step}
-use Rattle.scan.specs.Run.{in_run}
+use Rattle.base.specs.Digits.{in_digits}
 use Rattle.scan.specs.Number.{past_fraction}
-use Rattle.scan.specs.declared.run.Run.TheVariants as run
 use Rattle.scan.proofs.number.past_fraction.Goals as goal
 
 -- the digits after the first of them
-from_second : (s : List ℕ) (i : ℕ) → is_digit (byte s (i + 1)) ≡ true → reach (in_run run.Digits) s (i + 2) ≡ reach (in_run run.Digits) s (i + 1)
-unfolding in_run
+from_second : (s : List ℕ) (i : ℕ) → is_digit (byte s (i + 1)) ≡ true → reach in_digits s (i + 2) ≡ reach in_digits s (i + 1)
 from_second s i e =
     let q : i + 2 ≡ i + 1 + 1 = omega arith in
-    rw q (reach_step (in_run run.Digits) s (i + 1) (in_text is_digit s (i + 1) no_digit e) e)
+    rw q (reach_step in_digits s (i + 1) (in_text is_digit s (i + 1) no_digit e) e)
 
 pub returns-then-is_digit : goal.returns-then-is_digit
 unfolding past_fraction

@@ -17,7 +17,7 @@ use Rattle.scan.proofs.run.past_units.Goals.{then-a-is_digit, else-a-is_digit+th
 use Rattle.scan.proofs.run.past_units.Goals as goal
 
 pub loop-i-init : goal.loop-i-init
-loop-i-init c = behind _ _ _ _ refl c.letters_end-i.ensures
+loop-i-init c = behind _ _ _ _ refl c.reach_bytes-i.ensures
 
 pub overflow_add-i-then-a-b : goal.overflow_add-i-then-a-b
 overflow_add-i-then-a-b c =
@@ -40,7 +40,7 @@ loop-i-smaller c =
       | then-a-is_digit w ↦ let e = w.i-is in omega arith
       | else-a-is_digit+then-a-b w ↦ let e = w.i-is in omega arith
     ] in
-    let e = c.letters_end-i-in-loop-i.ensures in
+    let e = c.reach_bytes-i-in-loop-i.ensures in
     omega (arith, moved, reach_ge in_letters text c.if-a-is_digit.i)
 
 pub loop-i-preserved : goal.loop-i-preserved
@@ -54,7 +54,7 @@ loop-i-preserved c =
           let there : micro text c.loop-i.i ≡ true = cc in
           rw w.i-is (two_turn _ _ _ c.loop-i.invariant c.loop-i-test.true no_point there)
     ] in
-    behind _ _ _ _ same c.letters_end-i-in-loop-i.ensures
+    behind _ _ _ _ same c.reach_bytes-i-in-loop-i.ensures
 
 pub returns : goal.returns
 returns c = sym (past_end unit_piece _ _ c.loop-i-test.false) ∙ c.loop-i.invariant.same

@@ -25,7 +25,7 @@ unfolding starts_number is_digit
 no_quote s e q = let f = rw q at e in true_false false f refl
 
 pub returns-then-not-starts_number : goal.returns-then-not-starts_number
-unfolding seen_of start_at in_run
+unfolding seen_of start_at
 returns-then-not-starts_number c = let r = c.reach_run-start in
     let f = told _ c.starts_number.ensures c.if-not-starts_number.true in
     rw (← r.ensures, ← c.peek.ensures, f)
@@ -68,7 +68,7 @@ overflow_add-end c =
     rw e (omega (arith, inside))
 
 pub returns : goal.returns
-unfolding seen_of start_at in_run
+unfolding seen_of start_at
 returns c =
     let text : List ℕ = c.args.text.now in
     let start : ℕ = c.reach_run-start.result in

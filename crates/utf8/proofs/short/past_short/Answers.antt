@@ -6,8 +6,8 @@ use Rattle.utf8.proofs.short.past_short.Goals as goal
 pub loop-i-init : goal.loop-i-init
 loop-i-init c = search onward_first
 
-pub loop-i-preserved-then-all_ascii : goal.loop-i-preserved-then-all_ascii
-loop-i-preserved-then-all_ascii c = search ascii_window
+pub loop-i-preserved-then-all : goal.loop-i-preserved-then-all
+loop-i-preserved-then-all c = search ascii_window
 
 pub overflow_add-i : goal.overflow_add-i
 overflow_add-i c = search window_fits

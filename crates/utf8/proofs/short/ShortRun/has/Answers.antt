@@ -1,6 +1,6 @@
--- `in_short` is the test of its definition. Assumes nothing.
+-- `has` is the test of its definition. Assumes nothing.
 use Rattle.utf8.specs.Helpers.{in_short}
-use Rattle.utf8.proofs.short.in_short.Goals as goal
+use Rattle.utf8.proofs.short.ShortRun.has.Goals as goal
 
 pub returns : goal.returns
 unfolding in_short

@@ -88,6 +88,22 @@ pub fn past_window<R: Run>(run: R, s: &[u8], at: usize) -> usize
     at + window_count(run, &s[at..end])
 }
 
+// The end of the windows from `at` on that belong to the run, and of the run in the window after them.
+pub fn past_windows<R: Run>(run: R, s: &[u8], at: usize) -> usize
+    requires { at ≤ length s.now }
+    ensures { Ahead (R.has run) s.now at result }
+{
+    let mut i = at;
+    while WINDOW < s.len() - i {
+        let end = past_window(run, s, i);
+        if end - i != WINDOW {
+            return end;
+        }
+        i = end;
+    }
+    i
+}
+
 // The end of the run that starts at `at`, for runs that are often long.
 pub fn reach_long<R: Run>(run: R, s: &[u8], at: usize) -> usize
     ensures { result ≡ reach (R.has run) s.now at }

@@ -1,15 +1,12 @@
--- For `step_at`, `feed` and `ordinary_end`: what they return is a row of its definition, or the end of a run. Assumes nothing.
+-- For `step_at` and `feed`: what they return is a row of its definition. Assumes nothing.
 use mathlib.Core.Path.{◌≡◌, sym, ◌∙◌, subst}
-use mathlib.Core.Bool.{Bool, true, false}
 use mathlib.Core.List.{List, [], ◌∷◌}
 use Prim.Native.Nat.{ℕ, ◌+◌, ◌-◌, ◌^◌, ◌≤◌, ◌<◌}
 use native.Mathlib.Omega.{arith}
 use lib.ListN.{length, drop, take, length-drop}
 use mir.Syntax.{w64}
 use mir.Val.{Fits}
-use Rattle.base.specs.Bytes.{byte}
-use Rattle.base.specs.Runs.{reach}
-use Rattle.base.proofs.Reaches.{rest_is, reach_step, reach_stop, reach_end}
+use Rattle.base.proofs.Reaches.{rest_is}
 use Rattle.utf8.specs.State.{push, push_all}
 use Rattle.utf8.specs.declared.state.State.{State}
 use Rattle.lexeme.specs.declared.Mode.{Mode}
@@ -41,15 +38,3 @@ pub feed_4 : (t : State) (n a b c d : ℕ) (t₁ t₂ t₃ t₄ : State) → t�
     → n ≤ 4 → (n ≡ 0 → ⊥) → (n ≡ 1 → ⊥) → (n ≡ 2 → ⊥) → (n ≡ 3 → ⊥) → t₄ ≡ push_all t (take n (a ∷ b ∷ c ∷ d ∷ []))
 unfolding push_all
 feed_4 t n a b c d t₁ t₂ t₃ t₄ e₁ e₂ e₃ e₄ h n₀ n₁ n₂ n₃ = let e : n ≡ 4 = omega arith in rw (e, e₄, e₃, e₂, e₁)
-
--- a scan of a run of bytes that pass a test, at e
-module _ (f : ℕ → Bool) (s : List ℕ) (i e : ℕ) (inv : reach (λ (a b : ℕ). f a) s e ≡ reach (λ (a b : ℕ). f a) s i) where
-  module _ (t : Bool) (h : e < length s) (q : t ≡ f (byte s e)) where
-    pub scan_more : t ≡ true → reach (λ (a b : ℕ). f a) s (e + 1) ≡ reach (λ (a b : ℕ). f a) s i
-    scan_more y = reach_step (λ (a b : ℕ). f a) s e h (sym q ∙ y) ∙ inv
-
-    pub scan_stop : t ≡ false → e ≡ reach (λ (a b : ℕ). f a) s i
-    scan_stop y = sym (reach_stop (λ (a b : ℕ). f a) s e h (sym q ∙ y)) ∙ inv
-
-  pub scan_end : length s ≤ e → e ≡ reach (λ (a b : ℕ). f a) s i
-  scan_end h = sym (reach_end (λ (a b : ℕ). f a) s e h) ∙ inv

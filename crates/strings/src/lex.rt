@@ -154,12 +154,13 @@ pub fn put_string(s: &[u8], mode: Mode, len: usize, size: usize, out: &mut [u8],
     loop {
         let left = until - p;
         if strict & (left + 1 == len - i) {
-            base::copy(out, p, s, i, left);
+            let end = i + left;
+            base::copy(out, p, &s[i..end]);
             return;
         }
         let e = ordinary_end(s, i);
         let n = e - i;
-        base::copy(out, p, s, i, n);
+        base::copy(out, p, &s[i..e]);
         p += n;
         if base::peek(s, e) == b'"' {
             return;

@@ -4,8 +4,7 @@ ghost use Rattle.std.specs.Prelude.{◌≡◌, [], ◌∷◌, ◌+◌, ◌≤◌
 ghost use Rattle.std.proofs.lemmas.List.Edits.{sets};
 ghost use Rattle.base.specs.Choice.{pick};
 ghost use Rattle.base.specs.Bytes.{byte};
-ghost use Rattle.base.specs.Runs.{run, reach};
-ghost use Rattle.base.specs.Blocks.{Ahead};
+ghost use Rattle.base.specs.Runs.{reach};
 ghost use Rattle.utf8.specs.Grammar.{Octets};
 ghost use Rattle.utf8.specs.State.{fresh, push_all};
 ghost use Rattle.token.specs.Reason as reasons;
@@ -17,7 +16,7 @@ ghost use Rattle.strings.specs.Literal.{literal_of};
 
 use crate::digit::simple;
 use crate::piece::{Piece, next_piece};
-use base::find::{WINDOW, earlier};
+use base::runs::{Run, past_windows, reach_bytes};
 use lexeme::Mode;
 use token::reason;
 use utf8::check::is_inside;
@@ -182,6 +181,18 @@ fn report_count(reason: usize) -> usize
     1
 }
 
+// The bytes that stand for themselves.
+#[derive(Clone, Copy)]
+struct Ordinary;
+
+impl Run for Ordinary {
+    ghost has = { λ _. in_ordinary };
+
+    fn has(self, a: u8, _b: u8) -> bool {
+        is_ordinary(a)
+    }
+}
+
 // A byte that stands for itself.
 fn is_ordinary(b: u8) -> bool
     ensures { result ≡ is_ordinary b }
@@ -189,56 +200,15 @@ fn is_ordinary(b: u8) -> bool
     (b != b'"') & (b != b'\n') & (b != b'\\')
 }
 
-// How many bytes at the front of a window stand for themselves.
-fn ordinary_count(s: &[u8]) -> usize
-    requires { length s.now ≤ 255 }
-    ensures { result ≡ run in_ordinary s.now }
-{
-    let none = s.len() as u8;
-    let mut m = none;
-    let mut j = 0;
-    while j < none {
-        m = earlier(m, is_ordinary(s[j as usize]), none, j);
-        j += 1;
-    }
-    m as usize
-}
-
-// The end of the windows from i on of bytes that stand for themselves, and of such bytes in the window after them. Where escapes follow each
-// other there are none, and the first byte says it.
-fn past_ordinary(s: &[u8], i: usize) -> usize
-    requires { i ≤ length s.now }
-    ensures { Ahead in_ordinary s.now i result }
-{
-    if !is_ordinary(base::peek(s, i)) {
-        return i;
-    }
-    let mut e = i;
-    while WINDOW <= s.len() - e {
-        let end = e + WINDOW;
-        let n = ordinary_count(&s[e..end]);
-        e += n;
-        if n != WINDOW {
-            return e;
-        }
-    }
-    e
-}
-
-// The end of the run of bytes from i on that stand for themselves.
+// The end of the run of bytes from i on that stand for themselves. Where escapes follow each other there are none, and the first byte says it.
 pub fn ordinary_end(s: &[u8], i: usize) -> usize
     requires { i ≤ length s.now }
     ensures { result ≡ reach in_ordinary s.now i }
 {
-    let mut e = past_ordinary(s, i);
-    while e < s.len() {
-        if is_ordinary(s[e]) {
-            e += 1;
-        } else {
-            return e;
-        }
+    if !is_ordinary(base::peek(s, i)) {
+        return i;
     }
-    e
+    reach_bytes(Ordinary, s, past_windows(Ordinary, s, i))
 }
 
 // The byte that the escape of one letter at i stands for; 0 where there is none.

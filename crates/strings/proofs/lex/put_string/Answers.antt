@@ -1,19 +1,24 @@
 -- `put_string` stores what is left after what is stored already: all of it where it is text, else a run of bytes that stand for themselves,
 -- then the closing quote, escapes of one letter, or a step. What is stored so far is named stage by stage. Assumes nothing.
-use mathlib.Core.Path.{refl}
+use mathlib.Core.Path.{◌≡◌, refl}
 use mathlib.Core.List.{List}
 use Prim.Native.Nat.{ℕ, ◌+◌, ◌-◌, ◌*◌}
 use native.Mathlib.Omega.{arith}
-use Rattle.strings.proofs.Decodes.{run_ge, run_source, run_gives, simple_gives, step_four, step_gives, step_less}
+use lib.ListN.{drop, length-take}
+use Rattle.strings.proofs.Decodes.{run_ge, run_in, run_gives, simple_gives, step_four, step_gives, step_less}
 use Rattle.strings.proofs.Turns.{quote_stop, Writing, writing_first, writing_room, writing_more, writing_none, writing_stop}
 use Rattle.strings.proofs.Closings.{left_in, left_room, left_source, text_left, last_same, last_copied}
 use Rattle.strings.proofs.lex.put_string.Goals.{After-copy-in-loop-i, After-put, After-put_simple-escapes, Else-escapes-ne0}
 use Rattle.strings.proofs.lex.put_string.Goals as goal
 
+-- a part of the text from i on
+front : (i n : ℕ) → i + n - i ≡ n
+front i n = omega arith
+
 -- the run is copied
 copied : (c : After-copy-in-loop-i) → let run_end : ℕ = c.ordinary_end-e.result in let next : ℕ = c.loop-i.p + (run_end - c.loop-i.i) in let Written
     : List ℕ → ℕ → ℕ → Type 0 = λ out j p. let a = c.args in Writing a.mode a.s.now a.len a.out.now a.place (a.place + a.size) out j p in Written
-    c.copy-in-loop-i.new.dst run_end next
+    c.copy-in-loop-i.new.buf run_end next
 copied c =
     let run_end : ℕ = c.ordinary_end-e.result in
     let next : ℕ = c.loop-i.p + (run_end - c.loop-i.i) in
@@ -28,7 +33,7 @@ escaped c =
     let run_end : ℕ = c.ordinary_end-e.result in
     let next : ℕ = c.loop-i.p + (run_end - c.loop-i.i) in
     let Written : List ℕ → ℕ → ℕ → Type 0 = λ out j p. let a = c.args in Writing a.mode a.s.now a.len a.out.now a.place (a.place + a.size) out j p in
-    let copied : Written c.copy-in-loop-i.new.dst run_end next = let u = c.loop-i.invariant in writing_more u
+    let copied : Written c.copy-in-loop-i.new.buf run_end next = let u = c.loop-i.invariant in writing_more u
     (run_gives _ _ _ c.ordinary_end-e.ensures u.inside _) _ c.copy-in-loop-i.ensures in
     let w = copied in writing_more w (simple_gives _ _ _ w.inside c.put_simple-escapes.ensures.0 _) _ c.put_simple-escapes.ensures.1
 
@@ -40,7 +45,7 @@ stepping c =
     let run_end : ℕ = c.ordinary_end-e.result in
     let next : ℕ = c.loop-i.p + (run_end - c.loop-i.i) in
     let Written : List ℕ → ℕ → ℕ → Type 0 = λ out j p. let a = c.args in Writing a.mode a.s.now a.len a.out.now a.place (a.place + a.size) out j p in
-    let copied : Written c.copy-in-loop-i.new.dst run_end next = let u = c.loop-i.invariant in writing_more u
+    let copied : Written c.copy-in-loop-i.new.buf run_end next = let u = c.loop-i.invariant in writing_more u
     (run_gives _ _ _ c.ordinary_end-e.ensures u.inside _) _ c.copy-in-loop-i.ensures in
     let escaped : let n = c.put_simple-escapes.result in Written c.put_simple-escapes.new.out (run_end + 2 * n) (next + n) = let w = copied in
     writing_more w (simple_gives _ _ _ w.inside c.put_simple-escapes.ensures.0 _) _ c.put_simple-escapes.ensures.1 in
@@ -54,7 +59,7 @@ stepped c =
     let run_end : ℕ = c.ordinary_end-e.result in
     let next : ℕ = c.loop-i.p + (run_end - c.loop-i.i) in
     let Written : List ℕ → ℕ → ℕ → Type 0 = λ out j p. let a = c.args in Writing a.mode a.s.now a.len a.out.now a.place (a.place + a.size) out j p in
-    let copied : Written c.copy-in-loop-i.new.dst run_end next = let u = c.loop-i.invariant in writing_more u
+    let copied : Written c.copy-in-loop-i.new.buf run_end next = let u = c.loop-i.invariant in writing_more u
     (run_gives _ _ _ c.ordinary_end-e.ensures u.inside _) _ c.copy-in-loop-i.ensures in
     let escaped : let n = c.put_simple-escapes.result in Written c.put_simple-escapes.new.out (run_end + 2 * n) (next + n) = let w = copied in
     writing_more w (simple_gives _ _ _ w.inside c.put_simple-escapes.ensures.0 _) _ c.put_simple-escapes.ensures.1 in
@@ -73,15 +78,21 @@ overflow_add-left c = omega (arith, left_source c.loop-i.invariant, c.well_forme
 pub overflow_sub-len : goal.overflow_sub-len
 overflow_sub-len c = search text_left
 
+pub slice_bounds-copy-end : goal.slice_bounds-copy-end
+slice_bounds-copy-end c = left_source c.loop-i.invariant
+
 pub copy-requires : goal.copy-requires
-copy-requires c = search (left_room, left_source)
+copy-requires c =
+    let a = c.args in
+    let n = a.place + a.size - c.loop-i.p in
+    rw (front c.loop-i.i n) (omega (arith, length-take n (drop c.loop-i.i a.s.now), left_room c.loop-i.invariant))
 
 pub shape_of-out-then-strict-left : goal.shape_of-out-then-strict-left
-shape_of-out-then-strict-left c = last_same c.loop-i.invariant c.copy.ensures
+shape_of-out-then-strict-left c = last_same c.loop-i.invariant (rw (front c.loop-i.i _) at c.copy.ensures)
 
 -- ---- the needs
 pub returns-then-strict-left : goal.returns-then-strict-left
-returns-then-strict-left c = last_copied c.loop-i.invariant c.copy.ensures _ c.is_strict-strict.ensures c.if-strict-left.true
+returns-then-strict-left c = last_copied c.loop-i.invariant (rw (front c.loop-i.i _) at c.copy.ensures) _ c.is_strict-strict.ensures c.if-strict-left.true
 
 pub overflow_sub-n : goal.overflow_sub-n
 overflow_sub-n c = search run_ge
@@ -89,7 +100,17 @@ overflow_sub-n c = search run_ge
 pub copy-requires-in-loop-i : goal.copy-requires-in-loop-i
 copy-requires-in-loop-i c = let u = c.loop-i.invariant in
     let r = c.ordinary_end-e.ensures in
-    search (writing_room u (run_gives _ _ _ r u.inside _), run_source _ _ _ r u.inside)
+    let n = c.ordinary_end-e.result - c.loop-i.i in
+    omega (arith, length-take n (drop c.loop-i.i c.args.s.now), writing_room u (run_gives _ _ _ r u.inside c.args.mode))
+
+pub slice_bounds-copy-count-in-loop-i : goal.slice_bounds-copy-count-in-loop-i
+slice_bounds-copy-count-in-loop-i c = search run_ge
+
+pub slice_bounds-copy-start-in-loop-i : goal.slice_bounds-copy-start-in-loop-i
+slice_bounds-copy-start-in-loop-i c = search run_ge
+
+pub slice_bounds-copy-end-in-loop-i : goal.slice_bounds-copy-end-in-loop-i
+slice_bounds-copy-end-in-loop-i c = run_in _ _ _ c.ordinary_end-e.ensures c.loop-i.invariant.inside
 
 pub overflow_add-p : goal.overflow_add-p
 overflow_add-p c =

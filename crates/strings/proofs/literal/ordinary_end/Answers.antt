@@ -1,16 +1,15 @@
--- `ordinary_end` scans a run: the run from e on has the end of the run from i on. Assumes nothing.
-use Rattle.strings.proofs.Steps.{scan_more, scan_stop, scan_end}
-use Rattle.strings.specs.Plain.{is_ordinary}
+-- `ordinary_end` meets its contract: a byte that does not stand for itself ends the run before it. Assumes nothing.
+use mathlib.Core.Path.{◌≡◌, refl, sym, ap}
+use mathlib.Core.Bool.{false, not}
+use Rattle.base.specs.Bytes.{byte}
+use Rattle.base.proofs.Reaches.{reach_stop}
+use Rattle.base.proofs.Tests.{in_text}
+use Rattle.strings.specs.Plain.{is_ordinary, in_ordinary}
 use Rattle.strings.proofs.literal.ordinary_end.Goals as goal
 
-pub loop-e-init : goal.loop-e-init
-loop-e-init c = c.past_ordinary-e.ensures.same
-
-pub loop-e-preserved : goal.loop-e-preserved
-loop-e-preserved c = search (scan_more is_ordinary)
-
-pub returns-else-is_ordinary : goal.returns-else-is_ordinary
-returns-else-is_ordinary c = search (scan_stop is_ordinary)
-
-pub returns : goal.returns
-returns c = search (scan_end is_ordinary)
+pub returns-then-not-is_ordinary : goal.returns-then-not-is_ordinary
+unfolding is_ordinary
+returns-then-not-is_ordinary c =
+    let a = c.args in
+    let e : is_ordinary (byte a.s.now a.i) ≡ false = rw (← c.peek.ensures, ← c.is_ordinary.ensures) c.if-not-is_ordinary.true in
+    sym (reach_stop in_ordinary _ _ (in_text (λ b. not (is_ordinary b)) _ _ refl (ap not e)) e)

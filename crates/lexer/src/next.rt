@@ -10,8 +10,9 @@ ghost use Rattle.lexer.specs.Token.{start_at, found_from, found_at, placed, toke
 use crate::class::mark;
 use crate::reading::{Reading, lex_in};
 use base::peek;
+use base::runs::reach_run;
 use lexeme::Lexeme;
-use scan::run::{Run, reach_run};
+use scan::run::Blank;
 use token::kind::TokenKind;
 use token::place::{Place, walk};
 
@@ -43,7 +44,7 @@ pub struct Token {
 fn skip_spaces(text: &[u8], at: usize) -> usize
     ensures { result ≡ start_at text.now at }
 {
-    reach_run(Run::Blank, text, at)
+    reach_run(Blank, text, at)
 }
 
 // The lexeme of a mark: a newline has no value, any other mark is its own.

@@ -147,7 +147,7 @@ fn put_refusal(number: u8, out: &mut [u8]) -> Listed
     if out.len() < size {
         return Listed::OutShort;
     }
-    base::copy(out, 0, b"refused ", 0, 8);
+    base::copy(out, 0, b"refused ");
     write_number(out, 8, z, b'\n');
     Listed::Bytes(size)
 }

@@ -69,7 +69,6 @@ pub fn write_number(out: &mut [u8], at: usize, z: i64, after: u8) -> usize
 {
     let mut digits = [after; 22];
     let start = put_number(&mut digits, z);
-    let size = 22 - start;
-    base::copy(out, at, &digits, start, size);
-    at + size
+    base::copy(out, at, &digits[start..]);
+    at + 22 - start
 }

@@ -13,12 +13,13 @@ use lib.Seq.{get_or-drop, drop-drop, drop-append_seam}
 use Rattle.base.specs.Choice.{pick}
 use Rattle.base.specs.Bytes.{byte, each}
 use Rattle.base.specs.Classes.{is_digit}
+use Rattle.base.specs.Digits.{in_digits}
 use Rattle.base.specs.Runs.{reach, walk, past}
 use Rattle.base.proofs.Tests.{and_left, and-false, or_left, or_right, by_cases, no_digit, digit_range}
 use Rattle.base.proofs.Fronts.{begins, begins_is, reach_front}
 use Rattle.go_duration.specs.Parse.{parse_of}
 use Rattle.go_duration.specs.Written.{WrittenPart, part_bytes, IsPart}
-use Rattle.scan.specs.Run.{in_run, unit_piece}
+use Rattle.scan.specs.Run.{unit_piece}
 use Rattle.scan.specs.Number.{past_fraction, at_duration_unit, duration_by, lex_duration, lex_tail, lex_digits, at_inf, lex_number}
 use Rattle.suggest.proofs.PartCuts.{Lexable}
 use Rattle.suggest.proofs.PieceWalks.{no_unit, unit_plain, unit_taken}

@@ -11,6 +11,7 @@ use lib.ListN.{take, drop}
 use Rattle.base.specs.Choice.{pick}
 use Rattle.base.specs.Bytes.{byte}
 use Rattle.base.specs.Classes.{is_digit, is_lower_alpha}
+use Rattle.base.specs.Digits.{in_digits}
 use Rattle.base.specs.Runs.{run, reach, walk, past}
 use Rattle.base.proofs.Tests.{and_left, and_right, or_case, by_cases, true_false, pick_case, digit_range, within_low, within_high, and-false}
 use Rattle.base.proofs.Reaches.{reach_all}
@@ -20,7 +21,7 @@ use Rattle.lexeme.specs.declared.Lexeme.{Lexeme}
 use Rattle.go_duration.specs.Parse.{parse_of}
 use Rattle.go_duration.specs.declared.parse.Parsed.{Parsed}
 use Rattle.go_duration.specs.declared.parse.Parsed.TheVariants as parsed
-use Rattle.scan.specs.Run.{in_run, unit_piece}
+use Rattle.scan.specs.Run.{unit_piece}
 use Rattle.scan.specs.Number.{lex_precision, past_fraction, at_duration_unit, duration_by, lex_duration, goes_on_float, number_kind, value_end}
 use Rattle.scan.specs.Number.{lex_tail, lex_digits, at_inf, is_sign, lex_number}
 

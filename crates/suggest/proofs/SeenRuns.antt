@@ -14,6 +14,7 @@ use lib.Seq.{get_or-take, length-take-le}
 use Rattle.base.specs.Choice.{pick}
 use Rattle.base.specs.Bytes.{byte, each}
 use Rattle.base.specs.Classes.{is_digit, is_space}
+use Rattle.base.specs.Digits.{in_digits}
 use Rattle.base.specs.Runs.{run, reach}
 use Rattle.base.proofs.Tests.{and_left, and_right, by_cases, pick_first, zero_one}
 use Rattle.token.specs.Kind.{kind_number, duration_number}
@@ -24,7 +25,6 @@ use Rattle.go_duration.specs.Fraction.{most}
 use Rattle.go_duration.specs.Parse.{sign_of}
 use Rattle.go_duration.specs.Written.{WrittenPart, part_bytes, Parts, none, more, total_of, Accepted}
 use Rattle.go_duration.proofs.Durations as durations
-use Rattle.scan.specs.Run.{in_run}
 use Rattle.scan.specs.Number.{lex_number}
 use Rattle.scan.proofs.Scanned.{DurationRun, Scanned}
 use Rattle.scan.proofs.Numbers.{number_on_line}

@@ -87,7 +87,7 @@ fn fill_text(run: &[u8], text: &mut [u8], list: &mut [i64]) -> usize
     ensures { AllTried run.now list.old list.new result }
 {
     let n = run.len();
-    base::copy(text, 0, run, 0, n);
+    base::copy(text, 0, run);
     try_offsets(&mut text[..n], list)
 }
 

@@ -9,7 +9,8 @@ ghost use Rattle.suggest.specs.Helpers.{CutBefore, CutAfter, MinusZero, Front, S
 use crate::seen::{Seen, see};
 use base::class::{is_digit, is_lower_alpha};
 use base::peek;
-use scan::run::{Run, reach_run};
+use base::runs::reach_run;
+use scan::run::Blank;
 
 // The least and the greatest number of nanoseconds.
 const LEAST: i64 = -9223372036854775808;
@@ -83,7 +84,7 @@ pub fn surroundings(run: &[u8], i: usize) -> Around
 fn is_minus(text: &[u8]) -> bool
     ensures { result ≡ is_minus text.now }
 {
-    peek(text, reach_run(Run::Blank, text, 0)) == b'-'
+    peek(text, reach_run(Blank, text, 0)) == b'-'
 }
 
 // Whether a zero is seen under `-`. It is joined with nothing: under the sign what follows may be one nanosecond more than by itself.

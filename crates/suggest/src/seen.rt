@@ -4,9 +4,10 @@ ghost use Rattle.suggest.specs.Helpers.{starts_number, seen_by, seen_of};
 
 use base::class::is_digit;
 use base::peek;
+use base::runs::reach_run;
 use lexeme::Lexeme;
 use lexer::reading::{Reading, lex_in};
-use scan::run::{Run, reach_run};
+use scan::run::Blank;
 
 #[derive(Clone, Copy)]
 pub enum Seen {
@@ -38,11 +39,11 @@ fn see_by(x: Lexeme, blank: bool) -> Seen
 pub fn see(text: &[u8]) -> Seen
     ensures { result ≡ seen_of text.now }
 {
-    let start = reach_run(Run::Blank, text, 0);
+    let start = reach_run(Blank, text, 0);
     if !starts_number(peek(text, start)) {
         return Seen::Other;
     }
     let x = lex_in(&text[start..], Reading::Strict, 0);
     let end = start + x.len;
-    see_by(x, reach_run(Run::Blank, text, end) == text.len())
+    see_by(x, reach_run(Blank, text, end) == text.len())
 }

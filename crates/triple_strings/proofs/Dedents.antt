@@ -94,8 +94,8 @@ module _ (s : List ℕ) (k : ℕ) (ek : k ≡ last_start s) (b : Bool) (eb : b �
     pub room_plain : b ≡ false → place + length (unindent s) ≤ length out → place + length s ≤ length out
     room_plain n h = rw (plain n) at h
 
-    pub out_plain : (o : List ℕ) → b ≡ false → o ≡ sets out place (take (length s) (drop 0 s)) → o ≡ sets out place (unindent s)
-    out_plain o n e = rw (plain n) (rw take-length at e)
+    pub out_plain : (o : List ℕ) → b ≡ false → o ≡ sets out place s → o ≡ sets out place (unindent s)
+    out_plain o n e = rw (plain n) e
 
 -- ---- `dedent_len` and `dedent_write`
 

@@ -166,5 +166,5 @@ module _ (ind s : List ℕ) (z : length ind ≡ 0) where
     pub copy_room : place + length (undented ind s) ≤ length out → place + length s ≤ length out
     copy_room h = rw (undented_empty ind s z) at h
 
-    pub copy_all : (o : List ℕ) → o ≡ sets out place (take (length s) (drop 0 s)) → o ≡ sets out place (undented ind s)
-    copy_all o e = rw (undented_empty ind s z) (rw take-length at e)
+    pub copy_all : (o : List ℕ) → o ≡ sets out place s → o ≡ sets out place (undented ind s)
+    copy_all o e = rw (undented_empty ind s z) e

@@ -33,7 +33,7 @@ fn undent_write(body: &[u8], indent: &[u8], out: &mut [u8], place: usize)
     ensures { out.new ≡ sets out.old place (undented indent.now body.now) }
 {
     if indent.len() == 0 {
-        base::copy(out, place, body, 0, body.len());
+        base::copy(out, place, body);
         return;
     }
     let mut i = indent_size(body, indent);
@@ -91,7 +91,7 @@ fn unindent_write(s: &[u8], out: &mut [u8], place: usize)
         undent_write(&s[..e], &s[k..], out, place);
         return;
     }
-    base::copy(out, place, s, 0, s.len());
+    base::copy(out, place, s);
 }
 
 // How many bytes the dedent of a raw string has.

@@ -1,6 +1,5 @@
 -- `skip_spaces` is `start_at`: the run of blanks, by its definition. Assumes nothing.
 use borrow.Author.Rules.{rules}
-use Rattle.scan.specs.Run.{in_run}
 use Rattle.lexer.specs.Token.{start_at}
 use Rattle.lexer.proofs.next.skip_spaces.Goals as goal
 

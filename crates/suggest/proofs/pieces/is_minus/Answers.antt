@@ -1,5 +1,4 @@
 -- `is_minus` is `is_minus`, by the run of blanks. Assumes nothing.
-use Rattle.scan.specs.Run.{in_run}
 use Rattle.lexer.specs.Token.{start_at}
 use Rattle.suggest.specs.Helpers.{is_minus}
 use Rattle.suggest.proofs.pieces.is_minus.Goals as goal

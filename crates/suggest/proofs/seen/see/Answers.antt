@@ -11,7 +11,6 @@ use Rattle.base.specs.Bytes.{byte}
 use Rattle.base.proofs.Reaches.{rest_is}
 use Rattle.base.specs.Classes.{is_digit}
 use Rattle.base.proofs.Tests.{true_false, in_text, told}
-use Rattle.scan.specs.Run.{in_run}
 use Rattle.scan.specs.Number.{lex_number}
 use Rattle.lexer.specs.Helpers.{FromQuote}
 use Rattle.lexer.specs.Token.{start_at}

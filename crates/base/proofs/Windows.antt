@@ -3,7 +3,7 @@
 use mathlib.Core.Path.{◌≡◌, refl, ◌∙◌}
 use mathlib.Core.Bool.{Bool, true, false}
 use mathlib.Core.List.{List, [], ◌∷◌}
-use Prim.Native.Nat.{ℕ, zero, suc, ◌+◌, ◌-◌, ◌≤◌, ◌<◌}
+use Prim.Native.Nat.{ℕ, zero, suc, ◌+◌, ◌-◌, ◌≤◌, ◌<◌, min}
 use native.Mathlib.Nat.{add-zero, add_assoc}
 use native.Mathlib.Omega.{arith}
 use borrow.Author.Tests.{lt-ltb, le-ltb, ltb-true, ltb-false}
@@ -13,7 +13,7 @@ use lib.Seq.{get_or-take, get_or-drop}
 use Rattle.base.specs.Choice.{pick}
 use Rattle.base.specs.Bytes.{byte}
 use Rattle.base.specs.Runs.{run, reach}
-use Rattle.base.specs.Blocks.{earlier, window_run, Ahead}
+use Rattle.base.specs.Blocks.{window_run, Ahead}
 use Rattle.base.proofs.Tests.{by_cases, true_false, pick_le}
 use Rattle.base.proofs.Reaches.{run_le, run_fails, run_all, reach_step}
 
@@ -31,30 +31,27 @@ module _ (p : ℕ → ℕ → Bool) (s : List ℕ) where
   same : (w : ℕ) → {j : ℕ} → j ≤ w → (j < w → ⊥) → w ≡ j
   same w h n = omega (arith, n)
 
-  pub searched_turn : (j m : ℕ) → 64 < length s → j < 64 → Searched j m → Searched (j + 1) (earlier m (p (byte s j) (byte s (j + 1))) 64 j)
-  unfolding earlier
-  searched_turn j m l h u = rw u (go (ltb w j) refl (p (byte s j) (byte s (j + 1))) refl)
+  pub searched_turn : (j m k : ℕ) → 64 < length s → j < 64 → Searched j m → pick (p (byte s j) (byte s (j + 1))) 64 j ≡ k → Searched (j + 1) (min m k)
+  searched_turn j m k l h u v = rw (u, ← v) (go (ltb w j) refl (p (byte s j) (byte s (j + 1))) refl)
     where
       w : ℕ
       w = run p s
 
-      go : (x : Bool) → ltb w j ≡ x → (b : Bool) → p (byte s j) (byte s (j + 1)) ≡ b
-          → pick (ltb (pick b 64 j) (pick x w 64)) (pick b 64 j) (pick x w 64) ≡ pick (ltb w (j + 1)) w 64
-      go true e true f = rw (le-ltb 64 w (omega (arith, ltb-true w j e)), lt-ltb w (j + 1) (omega (arith, ltb-true w j e)))
-      go true e false f = rw (le-ltb j w (omega (arith, ltb-true w j e)), lt-ltb w (j + 1) (omega (arith, ltb-true w j e)))
+      go : (x : Bool) → ltb w j ≡ x → (b : Bool) → p (byte s j) (byte s (j + 1)) ≡ b → min (pick x w 64) (pick b 64 j) ≡ pick (ltb w (j + 1)) w 64
+      go true e true f = rw (lt-ltb w (j + 1) (omega (arith, ltb-true w j e))) (omega (arith, ltb-true w j e))
+      go true e false f = rw (lt-ltb w (j + 1) (omega (arith, ltb-true w j e))) (omega (arith, ltb-true w j e))
       go false e true f =
           let n : (w ≡ j → ⊥) = λ q. true_false (p (byte s j) (byte s (j + 1))) f (rw q at (run_fails p s (omega arith))) in
           rw (le-ltb w (j + 1) (over w (ltb-false w j e) n))
       go false e false f =
           let n : (j < w → ⊥) = λ q. true_false (p (byte s j) (byte s (j + 1))) (run_all p s j q) f in
-          rw (same w (ltb-false w j e) n, lt-ltb j 64 h, lt-ltb j (j + 1) (omega arith))
-
-  pub searched_le : (j m : ℕ) → j ≤ 64 → Searched j m → m ≤ 64
-  searched_le j m h u = rw u (by_cases (ltb (run p s) j) (λ e. rw e (omega (arith, ltb-true (run p s) j e))) (λ e. rw e (omega arith)))
+          rw (same w (ltb-false w j e) n, lt-ltb j (j + 1) (omega arith)) (omega arith)
 
   pub searched_end : (j m : ℕ) → 64 ≤ j → j ≤ 64 → Searched j m → m ≡ window_run p s
   unfolding window_run
-  searched_end j m h k u = let q : j ≡ 64 = omega arith in rw q at u
+  searched_end j m h k u =
+      let q : j ≡ 64 = omega arith in
+      (rw q at u) ∙ by_cases (ltb (run p s) 64) (λ e. rw e (omega (arith, ltb-true (run p s) 64 e))) (λ e. rw e (omega (arith, ltb-false (run p s) 64 e)))
 
 -- the bytes of a window, the first `window_run` of them, stay in the run
 module _ (p : ℕ → ℕ → Bool) (s : List ℕ) (i : ℕ) (l : 64 < length s - i) where
@@ -74,14 +71,11 @@ module _ (p : ℕ → ℕ → Bool) (s : List ℕ) (i : ℕ) (l : 64 < length s 
       let o : p (byte s (i + n)) (byte s (i + n + 1)) ≡ true = rw (a, b) at (run_all p window n f) in
       rw q (reach_step p s (i + n) (omega arith) o ∙ steps n (omega arith) (omega arith))
 
-  least : (m : ℕ) → (pick (ltb m 64) m 64 ≤ 64) × (pick (ltb m 64) m 64 ≤ m)
-  least m = by_cases (ltb m 64) (λ e. rw e (omega (arith, ltb-true m 64 e), omega arith)) (λ e. rw e (omega arith, ltb-false m 64 e))
-
   pub ahead_window : (at n : ℕ) → Ahead p s at i → n ≡ window_run p (take (i + 64 + 1 - i) (drop i s)) → Ahead p s at (i + n)
   unfolding window window_run
   ahead_window at n u e =
       let z : i + 64 + 1 - i ≡ 65 = omega arith in
       let f : n ≡ window_run p window = rw z at e in
-      let h : n ≤ 64 = rw f ((least (run p window)).0) in
-      let g : n ≤ run p window = rw f ((least (run p window)).1) in
+      let h : n ≤ 64 = rw f (omega arith) in
+      let g : n ≤ run p window = rw f (omega arith) in
       record { later = omega (arith, u.later); inside = omega arith; same = steps n h g ∙ u.same }

@@ -1,6 +1,5 @@
 -- Helper definitions, for proofs and inner contracts alone: runs that are tested a block of bytes at a time, or searched a window at a time.
-use Rattle.std.specs.Prelude.{◌≡◌, Bool, true, not, ◌&&◌, List, [], ◌∷◌, ℕ, ◌≤◌, eqb, ltb, length}
-use Rattle.base.specs.Choice.{pick}
+use Rattle.std.specs.Prelude.{◌≡◌, Bool, true, not, ◌&&◌, List, [], ◌∷◌, ℕ, ◌≤◌, eqb, min, length}
 use Rattle.base.specs.Runs.{run, reach}
 
 -- all bytes pass the test
@@ -22,10 +21,6 @@ is_not c a = not (eqb a c)
 abbrev pub other : ℕ → ℕ → ℕ → Bool
 other c a b = is_not c a
 
--- The search for the first byte that fails a test, by the least index: m before, and after the byte at j. It is `none` as long as all pass.
-unfoldable pub earlier : ℕ → Bool → ℕ → ℕ → ℕ
-earlier m passes none j = pick (ltb (pick passes none j) m) (pick passes none j) m
-
 -- r is in the run from i on, so that the run from r has the same end
 pub record Ahead (p : ℕ → ℕ → Bool) (s : List ℕ) (i r : ℕ) : Type 0 where
   pub later : i ≤ r
@@ -34,4 +29,4 @@ pub record Ahead (p : ℕ → ℕ → Bool) (s : List ℕ) (i r : ℕ) : Type 0 
 
 -- how many of the first 64 bytes are in the run
 unfoldable pub window_run : (ℕ → ℕ → Bool) → List ℕ → ℕ
-window_run p s = pick (ltb (run p s) 64) (run p s) 64
+window_run p s = min (run p s) 64

@@ -1,7 +1,7 @@
 // The ends of runs of bytes, searched a block or a window of bytes at a time.
 ghost use Rattle.std.specs.Prelude.{◌≡◌, ℕ, Bool, ◌≤◌, ◌<◌, ◌+◌, length};
 ghost use Rattle.base.specs.Runs.{reach};
-ghost use Rattle.base.specs.Blocks.{all_pairs, earlier, window_run, Ahead};
+ghost use Rattle.base.specs.Blocks.{all_pairs, window_run, Ahead};
 
 // How many bytes a block has, wherever bytes are tested or copied by blocks.
 pub const BLOCK: usize = 16;
@@ -54,16 +54,8 @@ pub fn past_blocks<R: Run>(run: R, s: &[u8], at: usize) -> usize
     i
 }
 
-// One turn of the search for the first byte of a window that is not in the run, by the least index: `m` before, and after the byte at `j`. It
-// is the window's length as long as all are. The search has no branch, so that several bytes can be tested by one instruction.
-fn earlier(m: u8, has: bool, j: u8) -> u8
-    ensures { result ≡ earlier m has 64 j }
-{
-    let k = if has { WINDOW as u8 } else { j };
-    if k < m { k } else { m }
-}
-
-// How many bytes of a window, which has one more after it, belong to the run.
+// How many bytes of a window, which has one more after it, belong to the run: the first that does not is searched by the least index. The search has
+// no branch, so that several bytes can be tested by one instruction.
 fn window_count<R: Run>(run: R, s: &[u8]) -> usize
     requires { 64 < length s.now }
     ensures { result ≡ window_run (R.has run) s.now }
@@ -71,7 +63,8 @@ fn window_count<R: Run>(run: R, s: &[u8]) -> usize
     let mut m = WINDOW as u8;
     for j in 0..WINDOW as u8 {
         let i = j as usize;
-        m = earlier(m, run.has(s[i], s[i + 1]), j);
+        let k = if run.has(s[i], s[i + 1]) { WINDOW as u8 } else { j };
+        m = m.min(k);
     }
     m as usize
 }

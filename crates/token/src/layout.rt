@@ -10,7 +10,7 @@ pub const RECORD_WIDTH: usize = 12;
 pub const REPORT_WIDTH: usize = 5;
 
 // What a token record says.
-#[derive(Clone, Copy)]
+#[derive(Clone, Copy, PartialEq, Eq, Debug)]
 pub struct Record {
     pub kind: usize,
     pub reason: usize,
@@ -32,7 +32,6 @@ impl Record {
         requires { RecordFits self }
         ensures { result ≡ record_numbers self }
     {
-        let nanos = self.nanos;
         [
             self.kind as i64,
             self.reason as i64,
@@ -45,13 +44,13 @@ impl Record {
             self.size as i64,
             self.precision as i64,
             self.digits as i64,
-            nanos,
+            self.nanos,
         ]
     }
 }
 
 // What a report says.
-#[derive(Clone, Copy)]
+#[derive(Clone, Copy, PartialEq, Eq, Debug)]
 pub struct Report {
     pub reason: usize,
     pub detail: usize,

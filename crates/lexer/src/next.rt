@@ -51,9 +51,9 @@ fn mark_lexeme(kind: TokenKind) -> Lexeme
     ensures { result ≡ mark_lexeme kind }
 {
     if kind.is_newline() {
-        return lexeme::bare(kind, 1);
+        return Lexeme::bare(kind, 1);
     }
-    lexeme::whole(kind, 1)
+    Lexeme::whole(kind, 1)
 }
 
 // The token after an offset, relative to its start. Most tokens are marks, which need no lexer.

@@ -15,6 +15,7 @@ use token::kind::TokenKind;
 use triple_strings::lex::lex_triple_string;
 
 // The token of a class, at the front of s.
+#[tactic(auto, unfolding(crate::specs::Lexer::lex_by))]
 fn lex_by(class: Class, s: &[u8], mode: Mode, limit: usize) -> Lexeme
     requires { (0 < length s.now) × (class ≡ class_at s.now) × FromQuote s.now }
     ensures { result ≡ lex_by class mode limit s.now }
@@ -35,6 +36,7 @@ fn lex_by(class: Class, s: &[u8], mode: Mode, limit: usize) -> Lexeme
 }
 
 // The token at the front of a text that starts with no blank.
+#[tactic(auto, unfolding(crate::specs::Lexer::lexeme_of))]
 pub fn lex_one(s: &[u8], mode: Mode, limit: usize) -> Lexeme
     requires { FromQuote s.now }
     ensures { result ≡ lexeme_of mode limit s.now }

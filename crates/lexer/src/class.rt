@@ -26,22 +26,23 @@ pub enum Class {
     Other,
 }
 
-// The kind of the mark that a byte is: a newline or a token of one byte; Eof where it is none.
-pub fn mark(b: u8) -> TokenKind
+// The kind of the mark that a byte is: a newline or a token of one byte.
+#[tactic(auto, unfolding(crate::specs::Helpers::mark_of))]
+pub fn mark(b: u8) -> Option<TokenKind>
     ensures { result ≡ mark_of b }
 {
     match b {
-        b'\n' => TokenKind::Newline,
-        b'{' => TokenKind::LBrace,
-        b'}' => TokenKind::RBrace,
-        b'[' => TokenKind::LBracket,
-        b']' => TokenKind::RBracket,
-        b'(' => TokenKind::LParen,
-        b')' => TokenKind::RParen,
-        b'=' => TokenKind::Equals,
-        b':' => TokenKind::Colon,
-        b',' => TokenKind::Comma,
-        _ => TokenKind::Eof,
+        b'\n' => Some(TokenKind::Newline),
+        b'{' => Some(TokenKind::LBrace),
+        b'}' => Some(TokenKind::RBrace),
+        b'[' => Some(TokenKind::LBracket),
+        b']' => Some(TokenKind::RBracket),
+        b'(' => Some(TokenKind::LParen),
+        b')' => Some(TokenKind::RParen),
+        b'=' => Some(TokenKind::Equals),
+        b':' => Some(TokenKind::Colon),
+        b',' => Some(TokenKind::Comma),
+        _ => None,
     }
 }
 

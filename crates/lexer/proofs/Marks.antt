@@ -22,7 +22,7 @@ use Rattle.lexeme.specs.declared.Mode.{Mode}
 use Rattle.lexer.specs.Reading.{mode_of, lexeme_in}
 use Rattle.lexer.specs.declared.reading.Reading.{Reading}
 use Rattle.lexer.specs.Token.{found_from, placed, token_of}
-use Rattle.lexer.specs.Helpers.{Placing, mark_of, mark_lexeme}
+use Rattle.lexer.specs.Helpers.{Placing, single_of, mark_of, mark_lexeme}
 use Rattle.lexer.proofs.FoundToken.{here_placing, here_token}
 use Rattle.lexer.specs.Lexer.{class_of, class_at, lex_by, lexeme_of}
 
@@ -37,7 +37,7 @@ module _ (m : Mode) (limit : ℕ) (a : ℕ) (s : List ℕ) where
   is n e f = rw (ne_eqb (length (a ∷ s)) 0 (λ q. omega arith), eqb-true a n e) f
 
   front : Marked (mark_of a)
-  unfolding Marked mark_of mark_lexeme class_at class_of lex_by kind_number
+  unfolding Marked mark_of single_of mark_lexeme class_at class_of lex_by kind_number
   front =
       pick_case Marked (eqb a 10) (λ e. is 10 e refl)
       (λ _. pick_case Marked (eqb a 123) (λ e. is 123 e refl)
@@ -57,7 +57,7 @@ module _ (m : Mode) (limit : ℕ) (a : ℕ) (s : List ℕ) where
 -- a byte of the text that is a mark is one of its bytes, and the token that starts with it
 module _ (text : List ℕ) (i : ℕ) (k : TokenKind) (e : mark_of (byte text i) ≡ Some k) where
   pub mark_in : i < length text
-  unfolding mark_of
+  unfolding mark_of single_of
   mark_in = in_text (λ a. is_some (mark_of a)) text i refl (rw e)
 
   pub mark_is : (m : Reading) (limit : ℕ) → lexeme_in m limit (drop i text) ≡ mark_lexeme k

@@ -18,11 +18,10 @@ use Rattle.lexer.specs.declared.reading.Reading.{Reading}
 -- Types that other files explain: `TokenKind` in token/specs/Kind.antt; `Place` in token/specs/Place.antt; `Lexeme` in lexeme/specs/Lexeme.antt;
 -- `Reading` in Reading.antt.
 
--- the kind of the mark that a byte is: a newline or a token of one byte
-unfoldable pub mark_of : ℕ → Option TokenKind
-mark_of a =
-    pick (eqb a (code "\n")) (Some K.Newline)
-    (pick (eqb a (code "{")) (Some K.LBrace)
+-- the kind of a token of one byte
+unfoldable pub single_of : ℕ → Option TokenKind
+single_of a =
+    pick (eqb a (code "{")) (Some K.LBrace)
     (pick (eqb a (code "}")) (Some K.RBrace)
     (pick (eqb a (code "[")) (Some K.LBracket)
     (pick (eqb a (code "]")) (Some K.RBracket)
@@ -30,7 +29,11 @@ mark_of a =
     (pick (eqb a (code ")")) (Some K.RParen)
     (pick (eqb a (code "=")) (Some K.Equals)
     (pick (eqb a (code ":")) (Some K.Colon)
-    (pick (eqb a (code ",")) (Some K.Comma) None)))))))))
+    (pick (eqb a (code ",")) (Some K.Comma) None))))))))
+
+-- the kind of the mark that a byte is: a newline or a token of one byte
+unfoldable pub mark_of : ℕ → Option TokenKind
+mark_of a = pick (eqb a (code "\n")) (Some K.Newline) (single_of a)
 
 -- the token of a mark: a newline has no value, any other mark is its own
 unfoldable pub mark_lexeme : TokenKind → Lexeme

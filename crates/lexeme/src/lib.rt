@@ -132,6 +132,5 @@ pub fn put_report(p: Place, reason: usize, detail: usize, out: &mut [i64], at: u
         line: p.line,
         column: p.column,
     };
-    let numbers = report.numbers();
-    base::store(out, at, &numbers);
+    base::store(out, at, &report.numbers());
 }

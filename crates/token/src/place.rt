@@ -3,7 +3,8 @@ ghost use Rattle.std.specs.Prelude.{◌≡◌};
 ghost use Rattle.token.specs.Place.{first_place, step_place, place_at};
 ghost use Rattle.token.specs.Helpers.{Steppable, Walkable};
 
-// A byte's offset, and the line and the column at which it stands. Columns count bytes.
+// A byte's offset, and the line and the column at which it stands. Columns count bytes. No ghost field says that it is a place of a text (`Steppable`,
+// `Walkable`): a caller may hand over one that is not, which is refused.
 #[derive(Clone, Copy, PartialEq, Eq, Debug)]
 pub struct Place {
     pub offset: usize,

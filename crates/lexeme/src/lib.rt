@@ -14,7 +14,7 @@ use token::place::Place;
 use token::reason;
 
 // Strict reading refuses what is open or badly escaped; tolerant reading recovers and reports.
-#[derive(Clone, Copy)]
+#[derive(Clone, Copy, PartialEq, Eq, Debug)]
 pub enum Mode {
     Strict,
     Tolerant,
@@ -23,7 +23,7 @@ pub enum Mode {
 // A token of `len` bytes. Its value is `size` bytes from `value` on, a String's the `size` decoded bytes; its precision is `digits` bytes from
 // `precision` on. `reports` counts its reports. Numbers that are neighbours in a record are none here: else the compiler loads two at once,
 // which waits for both to be stored.
-#[derive(Clone, Copy)]
+#[derive(Clone, Copy, PartialEq, Eq, Debug)]
 pub struct Lexeme {
     pub kind: TokenKind,
     pub reason: usize,
@@ -37,99 +37,86 @@ pub struct Lexeme {
     pub reports: usize,
 }
 
-// A token whose value is `size` bytes from `value` on, with so many reports.
-pub fn extent(kind: TokenKind, len: usize, value: usize, size: usize, reports: usize) -> Lexeme
-    ensures { result ≡ extent kind len value size reports }
-{
-    Lexeme {
-        kind,
-        reason: reason::NONE,
-        detail: 0,
-        len,
-        value,
-        size,
-        precision: 0,
-        digits: 0,
-        nanos: 0,
-        reports,
+impl Lexeme {
+    // A token without a value.
+    pub fn bare(kind: TokenKind, len: usize) -> Self
+        ensures { result ≡ bare kind len }
+    {
+        Self {
+            kind,
+            reason: reason::NONE,
+            len,
+            detail: 0,
+            value: len,
+            digits: 0,
+            size: 0,
+            nanos: 0,
+            precision: 0,
+            reports: 0,
+        }
     }
-}
 
-// The token is its own value.
-pub fn whole(kind: TokenKind, len: usize) -> Lexeme
-    ensures { result ≡ whole kind len }
-{
-    extent(kind, len, 0, len, 0)
-}
-
-// A token without a value.
-pub fn bare(kind: TokenKind, len: usize) -> Lexeme
-    ensures { result ≡ bare kind len }
-{
-    extent(kind, len, len, 0, 0)
-}
-
-// An Illegal token with so many reports.
-pub fn illegal_reported(reason: usize, detail: usize, len: usize, reports: usize) -> Lexeme
-    ensures { result ≡ illegal_reported reason detail len reports }
-{
-    Lexeme {
-        kind: TokenKind::Illegal,
-        reason,
-        detail,
-        len,
-        value: len,
-        size: 0,
-        precision: 0,
-        digits: 0,
-        nanos: 0,
-        reports,
+    // A token whose value is `size` bytes from `value` on, with so many reports.
+    pub fn extent(kind: TokenKind, len: usize, value: usize, size: usize, reports: usize) -> Self
+        ensures { result ≡ extent kind len value size reports }
+    {
+        Self {
+            value,
+            size,
+            reports,
+            ..Self::bare(kind, len)
+        }
     }
-}
 
-// An Illegal token.
-pub fn illegal(reason: usize, detail: usize, len: usize) -> Lexeme
-    ensures { result ≡ illegal reason detail len }
-{
-    illegal_reported(reason, detail, len, 0)
-}
-
-// A number of `len` bytes whose value ends at `end`, before `p` and the digits of its precision.
-pub fn precise(kind: TokenKind, end: usize, len: usize) -> Lexeme
-    requires { end < len }
-    ensures { result ≡ precise kind end len }
-{
-    let precision = end + 1;
-    let digits = len - precision;
-    Lexeme {
-        kind,
-        reason: reason::NONE,
-        detail: 0,
-        len,
-        value: 0,
-        size: end,
-        precision,
-        digits,
-        nanos: 0,
-        reports: 0,
+    // The token is its own value.
+    pub fn whole(kind: TokenKind, len: usize) -> Self
+        ensures { result ≡ whole kind len }
+    {
+        Self::extent(kind, len, 0, len, 0)
     }
-}
 
-// A Duration of so many nanoseconds.
-pub fn duration(len: usize, nanos: i64) -> Lexeme
-    ensures { result ≡ duration len nanos }
-{
-    Lexeme {
-        kind: TokenKind::Duration,
-        reason: reason::NONE,
-        detail: 0,
-        len,
-        value: 0,
-        size: len,
-        precision: 0,
-        digits: 0,
-        nanos,
-        reports: 0,
+    // An Illegal token with so many reports.
+    pub fn illegal_reported(reason: usize, detail: usize, len: usize, reports: usize) -> Self
+        ensures { result ≡ illegal_reported reason detail len reports }
+    {
+        Self {
+            reason,
+            detail,
+            reports,
+            ..Self::bare(TokenKind::Illegal, len)
+        }
+    }
+
+    // An Illegal token.
+    pub fn illegal(reason: usize, detail: usize, len: usize) -> Self
+        ensures { result ≡ illegal reason detail len }
+    {
+        Self::illegal_reported(reason, detail, len, 0)
+    }
+
+    // A number of `len` bytes whose value ends at `end`, before `p` and the digits of its precision.
+    pub fn precise(kind: TokenKind, end: usize, len: usize) -> Self
+        requires { end < len }
+        ensures { result ≡ precise kind end len }
+    {
+        let precision = end + 1;
+        Self {
+            value: 0,
+            size: end,
+            precision,
+            digits: len - precision,
+            ..Self::bare(kind, len)
+        }
+    }
+
+    // A Duration of so many nanoseconds.
+    pub fn duration(len: usize, nanos: i64) -> Self
+        ensures { result ≡ duration len nanos }
+    {
+        Self {
+            nanos,
+            ..Self::whole(TokenKind::Duration, len)
+        }
     }
 }
 
@@ -145,6 +132,5 @@ pub fn put_report(p: Place, reason: usize, detail: usize, out: &mut [i64], at: u
         line: p.line,
         column: p.column,
     };
-    let numbers = report.numbers();
-    base::store(out, at, &numbers);
+    base::store(out, at, &report.numbers());
 }

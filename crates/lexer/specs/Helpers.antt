@@ -1,6 +1,6 @@
 -- Helper definitions, for proofs and inner contracts alone: tokens that their first byte tells (marks), and what the functions below the next token
 -- require.
-use Rattle.std.specs.Prelude.{◌≡◌, true, List, ℕ, ◌+◌, ◌≤◌, ◌<◌, eqb, length, drop}
+use Rattle.std.specs.Prelude.{◌≡◌, true, Option, Some, None, List, ℕ, ◌+◌, ◌≤◌, ◌<◌, eqb, length, drop}
 use Prim.Native.Char.{code}
 use Rattle.base.specs.Choice.{pick}
 use Rattle.base.specs.Bytes.{byte}
@@ -18,19 +18,22 @@ use Rattle.lexer.specs.declared.reading.Reading.{Reading}
 -- Types that other files explain: `TokenKind` in token/specs/Kind.antt; `Place` in token/specs/Place.antt; `Lexeme` in lexeme/specs/Lexeme.antt;
 -- `Reading` in Reading.antt.
 
--- the kind of the mark that a byte is, a newline or a token of one byte, and Eof where it is none
-unfoldable pub mark_of : ℕ → TokenKind
-mark_of a =
-    pick (eqb a (code "\n")) K.Newline
-    (pick (eqb a (code "{")) K.LBrace
-    (pick (eqb a (code "}")) K.RBrace
-    (pick (eqb a (code "[")) K.LBracket
-    (pick (eqb a (code "]")) K.RBracket
-    (pick (eqb a (code "(")) K.LParen
-    (pick (eqb a (code ")")) K.RParen
-    (pick (eqb a (code "=")) K.Equals
-    (pick (eqb a (code ":")) K.Colon
-    (pick (eqb a (code ",")) K.Comma K.Eof)))))))))
+-- the kind of a token of one byte
+unfoldable pub single_of : ℕ → Option TokenKind
+single_of a =
+    pick (eqb a (code "{")) (Some K.LBrace)
+    (pick (eqb a (code "}")) (Some K.RBrace)
+    (pick (eqb a (code "[")) (Some K.LBracket)
+    (pick (eqb a (code "]")) (Some K.RBracket)
+    (pick (eqb a (code "(")) (Some K.LParen)
+    (pick (eqb a (code ")")) (Some K.RParen)
+    (pick (eqb a (code "=")) (Some K.Equals)
+    (pick (eqb a (code ":")) (Some K.Colon)
+    (pick (eqb a (code ",")) (Some K.Comma) None))))))))
+
+-- the kind of the mark that a byte is: a newline or a token of one byte
+unfoldable pub mark_of : ℕ → Option TokenKind
+mark_of a = pick (eqb a (code "\n")) (Some K.Newline) (single_of a)
 
 -- the token of a mark: a newline has no value, any other mark is its own
 unfoldable pub mark_lexeme : TokenKind → Lexeme

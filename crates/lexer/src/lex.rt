@@ -4,7 +4,7 @@ ghost use Rattle.lexer.specs.Lexer.{class_at, lex_by, lexeme_of};
 ghost use Rattle.lexer.specs.Helpers.{FromQuote};
 
 use crate::class::{Class, classify};
-use lexeme::{Lexeme, Mode, bare, whole};
+use lexeme::{Lexeme, Mode};
 use scan::bytes::lex_bytes;
 use scan::comment::{lex_block_comment, lex_line_comment};
 use scan::name::{lex_directive, lex_ident};
@@ -15,18 +15,19 @@ use token::kind::TokenKind;
 use triple_strings::lex::lex_triple_string;
 
 // The token of a class, at the front of s.
+#[tactic(auto, unfolding(crate::specs::Lexer::lex_by))]
 fn lex_by(class: Class, s: &[u8], mode: Mode, limit: usize) -> Lexeme
     requires { (0 < length s.now) × (class ≡ class_at s.now) × FromQuote s.now }
     ensures { result ≡ lex_by class mode limit s.now }
 {
     match class {
-        Class::Newline => bare(TokenKind::Newline, 1),
+        Class::Newline => Lexeme::bare(TokenKind::Newline, 1),
         Class::LineComment => lex_line_comment(s),
         Class::BlockComment => lex_block_comment(s, mode),
         Class::Triple => lex_triple_string(s, mode),
         Class::Quote => lex_string(s, mode),
         Class::Bytes => lex_bytes(s, mode, limit),
-        Class::Single(kind) => whole(kind, 1),
+        Class::Single(kind) => Lexeme::whole(kind, 1),
         Class::Directive => lex_directive(s),
         Class::Number => lex_number(s),
         Class::Name => lex_ident(s),
@@ -35,12 +36,13 @@ fn lex_by(class: Class, s: &[u8], mode: Mode, limit: usize) -> Lexeme
 }
 
 // The token at the front of a text that starts with no blank.
+#[tactic(auto, unfolding(crate::specs::Lexer::lexeme_of))]
 pub fn lex_one(s: &[u8], mode: Mode, limit: usize) -> Lexeme
     requires { FromQuote s.now }
     ensures { result ≡ lexeme_of mode limit s.now }
 {
     if s.len() == 0 {
-        return bare(TokenKind::Eof, 0);
+        return Lexeme::bare(TokenKind::Eof, 0);
     }
     let class = classify(s);
     lex_by(class, s, mode, limit)

@@ -52,9 +52,9 @@ fn mark_lexeme(kind: TokenKind) -> Lexeme
     ensures { result ≡ mark_lexeme kind }
 {
     if kind.is_newline() {
-        return lexeme::bare(kind, 1);
+        return Lexeme::bare(kind, 1);
     }
-    lexeme::whole(kind, 1)
+    Lexeme::whole(kind, 1)
 }
 
 // The token after an offset, relative to its start. Most tokens are marks, which need no lexer.
@@ -63,8 +63,7 @@ pub fn next_lexeme(text: &[u8], at: usize, mode: Reading, limit: usize) -> Found
     ensures { result ≡ found_at mode limit text.now at }
 {
     let start = skip_spaces(text, at);
-    let kind = mark(peek(text, start));
-    if !kind.is_eof() {
+    if let Some(kind) = mark(peek(text, start)) {
         let lexeme = mark_lexeme(kind);
         return Found { start, lexeme };
     }
@@ -180,8 +179,7 @@ pub fn each_token(text: &[u8], place: Place, mode: Reading, limit: usize) -> Tok
     let start = past_blanks(text, place);
     let first = start.offset;
     let b = peek(text, first);
-    let kind = mark(b);
-    if !kind.is_eof() {
+    if let Some(kind) = mark(b) {
         return placed(start, start.step(b), mark_lexeme(kind));
     }
     token_from(text, start, mode, limit)

@@ -10,7 +10,7 @@ ghost use Rattle.lexer.specs.Helpers.{StringFront, ReportRoom};
 
 use crate::reading::Reading;
 use base::peek;
-use lexeme::put_report;
+use lexeme::{Mode, put_report};
 use scan::bytes::bytes_reason;
 use strings::notes::put_string_notes;
 use token::place::Place;
@@ -27,7 +27,7 @@ pub fn put_string(s: &[u8], mode: Reading, len: usize, size: usize, out: &mut [u
         put_triple_string(s, out, place);
         return;
     }
-    strings::lex::put_string(s, mode.mode(), len, size, out, place);
+    strings::lex::put_string(s, Mode::from(mode), len, size, out, place);
 }
 
 // Writes a report at the place where a token starts.
@@ -67,5 +67,5 @@ pub fn put_reports(
         put_at_start(text, start, reason::OPEN_TRIPLE_STRING, out, at);
         return;
     }
-    put_string_notes(text, start, mode.mode(), out, at);
+    put_string_notes(text, start, Mode::from(mode), out, at);
 }

@@ -6,19 +6,19 @@ ghost use Rattle.lexer.specs.Reading.{mode_of, lexeme_in};
 use crate::lex::lex_one;
 use lexeme::{Lexeme, Mode};
 
-// A reading is strict or tolerant.
-#[derive(Clone, Copy)]
+// A reading is strict or tolerant. A type of its own beside the lexers' `Mode`: with request #114 a reading has a third case, and the lexers keep two.
+#[derive(Clone, Copy, PartialEq, Eq, Debug)]
 pub enum Reading {
     Strict,
     Tolerant,
 }
 
-impl Reading {
-    // The mode of the lexers in this reading.
-    pub fn mode(self) -> Mode
-        ensures { result ≡ mode_of self }
-    {
-        match self {
+// The mode of the lexers in a reading.
+impl From<Reading> for Mode {
+    ghost from_gives = { λ r m. m ≡ mode_of r };
+
+    fn from(reading: Reading) -> Mode {
+        match reading {
             Reading::Strict => Mode::Strict,
             Reading::Tolerant => Mode::Tolerant,
         }
@@ -26,9 +26,10 @@ impl Reading {
 }
 
 // The token at the front of a text that starts with no blank, in a reading.
+#[tactic(auto, unfolding(crate::specs::Reading::lexeme_in))]
 pub fn lex_in(s: &[u8], mode: Reading, limit: usize) -> Lexeme
     requires { FromQuote s.now }
     ensures { result ≡ lexeme_in mode limit s.now }
 {
-    lex_one(s, mode.mode(), limit)
+    lex_one(s, Mode::from(mode), limit)
 }

@@ -119,7 +119,7 @@ fn write(
 fn most_reports(mode: Reading, len: usize) -> usize
     ensures { result ≡ most_reports mode len }
 {
-    match mode.mode() {
+    match Mode::from(mode) {
         Mode::Strict => 0,
         Mode::Tolerant => len,
     }

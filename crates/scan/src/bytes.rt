@@ -50,9 +50,9 @@ fn bytes_value(len: usize, n: usize, reports: usize) -> Lexeme
     ensures { result ≡ bytes_value len n reports }
 {
     if n == 0 {
-        return lexeme::extent(TokenKind::Bytes, len, len, n, reports);
+        return Lexeme::extent(TokenKind::Bytes, len, len, n, reports);
     }
-    lexeme::extent(TokenKind::Bytes, len, 2, n, reports)
+    Lexeme::extent(TokenKind::Bytes, len, 2, n, reports)
 }
 
 // A literal without its closing quote, of `n` bytes after its opening quote.
@@ -61,7 +61,7 @@ fn open_bytes(mode: Mode, n: usize) -> Lexeme
     ensures { result ≡ open_bytes_literal mode n }
 {
     match mode {
-        Mode::Strict => lexeme::illegal(reason::OPEN_BYTES, 0, n + 2),
+        Mode::Strict => Lexeme::illegal(reason::OPEN_BYTES, 0, n + 2),
         Mode::Tolerant => bytes_value(n + 2, n, 1),
     }
 }
@@ -71,7 +71,7 @@ pub fn lex_bytes(s: &[u8], mode: Mode, limit: usize) -> Lexeme
     ensures { result ≡ lex_bytes mode limit s.now }
 {
     match bytes_stop(s, limit) {
-        Stop::Over(n) => lexeme::illegal(reason::BYTES_OVER_LIMIT, 0, char_end(s, n + 2)),
+        Stop::Over(n) => Lexeme::illegal(reason::BYTES_OVER_LIMIT, 0, char_end(s, n + 2)),
         Stop::Closed(n) => bytes_value(n + 3, n, 0),
         Stop::Newline(n) => open_bytes(mode, n),
         Stop::Open(n) => open_bytes(mode, n),

@@ -13,7 +13,7 @@ use utf8::check::char_end;
 pub fn lex_line_comment(s: &[u8]) -> Lexeme
     ensures { result ≡ lex_line_comment s.now }
 {
-    lexeme::whole(TokenKind::Comment, reach_long(Line, s, 0))
+    Lexeme::whole(TokenKind::Comment, reach_long(Line, s, 0))
 }
 
 // Where strict reading stops in an open block comment.
@@ -31,8 +31,8 @@ fn open_comment(s: &[u8], mode: Mode) -> Lexeme
     ensures { result ≡ open_comment mode s.now }
 {
     match mode {
-        Mode::Strict => lexeme::illegal(reason::OPEN_BLOCK_COMMENT, 0, open_end(s)),
-        Mode::Tolerant => lexeme::extent(TokenKind::Comment, s.len(), 0, s.len(), 1),
+        Mode::Strict => Lexeme::illegal(reason::OPEN_BLOCK_COMMENT, 0, open_end(s)),
+        Mode::Tolerant => Lexeme::extent(TokenKind::Comment, s.len(), 0, s.len(), 1),
     }
 }
 
@@ -42,7 +42,7 @@ pub fn lex_block_comment(s: &[u8], mode: Mode) -> Lexeme
 {
     let end = reach_long(Body, s, 2);
     if end < s.len() {
-        return lexeme::whole(TokenKind::Comment, end + 2);
+        return Lexeme::whole(TokenKind::Comment, end + 2);
     }
     open_comment(s, mode)
 }

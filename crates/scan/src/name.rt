@@ -34,7 +34,7 @@ pub fn lex_ident(s: &[u8]) -> Lexeme
     ensures { result ≡ lex_ident s.now }
 {
     let n = reach_run(Name, s, 0);
-    lexeme::whole(name_kind(&s[..n]), n)
+    Lexeme::whole(name_kind(&s[..n]), n)
 }
 
 // The directive of a name, of `n` bytes with its `@`.
@@ -43,15 +43,15 @@ fn directive(name: &[u8], n: usize) -> Lexeme
     ensures { result ≡ directive name.now n }
 {
     if is_word(name, b"type") {
-        return lexeme::whole(TokenKind::AtType, n);
+        return Lexeme::whole(TokenKind::AtType, n);
     }
     if is_word(name, b"dataset") {
-        return lexeme::whole(TokenKind::AtDataset, n);
+        return Lexeme::whole(TokenKind::AtDataset, n);
     }
     if is_word(name, b"proto") {
-        return lexeme::whole(TokenKind::AtProto, n);
+        return Lexeme::whole(TokenKind::AtProto, n);
     }
-    lexeme::extent(TokenKind::AtDirective, n, 1, n - 1, 0)
+    Lexeme::extent(TokenKind::AtDirective, n, 1, n - 1, 0)
 }
 
 // What begins with `@`.
@@ -61,7 +61,7 @@ pub fn lex_directive(s: &[u8]) -> Lexeme
 {
     let n = reach_run(Name, s, 1);
     if n == 1 {
-        return lexeme::illegal(reason::AT_WITHOUT_NAME, 0, 1);
+        return Lexeme::illegal(reason::AT_WITHOUT_NAME, 0, 1);
     }
     directive(&s[1..n], n)
 }

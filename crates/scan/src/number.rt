@@ -21,10 +21,10 @@ fn lex_precision(kind: TokenKind, s: &[u8], end: usize) -> Lexeme
 {
     if peek(s, end) == b'p' {
         if is_digit(peek(s, end + 1)) {
-            return lexeme::precise(kind, end, reach_run(Digits, s, end + 1));
+            return Lexeme::precise(kind, end, reach_run(Digits, s, end + 1));
         }
     }
-    lexeme::whole(kind, end)
+    Lexeme::whole(kind, end)
 }
 
 // Past a point and digits or none.
@@ -89,8 +89,8 @@ fn lex_duration(s: &[u8], f: usize) -> Lexeme
 {
     let len = past_units(s, f);
     match parse(&s[..len]) {
-        Parsed::Nanos(nanos) => lexeme::duration(len, nanos),
-        Parsed::Bad => lexeme::illegal(reason::BAD_DURATION, 0, len),
+        Parsed::Nanos(nanos) => Lexeme::duration(len, nanos),
+        Parsed::Bad => Lexeme::illegal(reason::BAD_DURATION, 0, len),
     }
 }
 
@@ -143,8 +143,8 @@ fn lex_timestamp(s: &[u8], n: usize) -> Lexeme
 {
     let len = reach_run(Stamp, s, n);
     match rfc3339::parse::parse(&s[..len]) {
-        Instant::Date { .. } => lexeme::whole(TokenKind::Timestamp, len),
-        Instant::NoDate => lexeme::illegal(reason::BAD_TIMESTAMP, 0, len),
+        Instant::Date { .. } => Lexeme::whole(TokenKind::Timestamp, len),
+        Instant::NoDate => Lexeme::illegal(reason::BAD_TIMESTAMP, 0, len),
     }
 }
 
@@ -176,13 +176,13 @@ pub fn lex_number(s: &[u8]) -> Lexeme
     let sign = (a == b'+') | (a == b'-');
     if sign {
         if at_inf(s) {
-            return lexeme::whole(TokenKind::Float, 4);
+            return Lexeme::whole(TokenKind::Float, 4);
         }
         if a == b'+' {
-            return lexeme::illegal(reason::PLUS_WITHOUT_INF, 0, 1);
+            return Lexeme::illegal(reason::PLUS_WITHOUT_INF, 0, 1);
         }
         if !is_digit(peek(s, 1)) {
-            return lexeme::illegal(reason::MINUS_WITHOUT_DIGIT, 0, 1);
+            return Lexeme::illegal(reason::MINUS_WITHOUT_DIGIT, 0, 1);
         }
     }
     lex_digits(s, sign as usize)

@@ -13,5 +13,5 @@ pub fn lex_other(s: &[u8]) -> Lexeme
 {
     let found = decode(s);
     let code = found.code;
-    lexeme::illegal(reason::UNEXPECTED_CHARACTER, code as usize, char_end(s, 1))
+    Lexeme::illegal(reason::UNEXPECTED_CHARACTER, code as usize, char_end(s, 1))
 }

@@ -95,12 +95,12 @@ fn lex_strict(s: &[u8]) -> Lexeme
     let need = state.need;
     let reason = end_reason(end);
     if reason != reason::NONE {
-        return lexeme::illegal(reason, end_detail(end), end_of(s, end, stop));
+        return Lexeme::illegal(reason, end_detail(end), end_of(s, end, stop));
     }
     if need != 0 {
-        return lexeme::illegal(reason::STRING_NOT_UTF8, 0, stop);
+        return Lexeme::illegal(reason::STRING_NOT_UTF8, 0, stop);
     }
-    lexeme::extent(TokenKind::String, stop, 0, m.count, 0)
+    Lexeme::extent(TokenKind::String, stop, 0, m.count, 0)
 }
 
 // The literal read tolerantly: an ending is reported.
@@ -115,9 +115,9 @@ fn lex_tolerant(s: &[u8]) -> Lexeme
     let need = state.need;
     let reports = m.reports + end_reports(end);
     if need == 0 {
-        return lexeme::extent(TokenKind::String, stop, 0, m.count, reports);
+        return Lexeme::extent(TokenKind::String, stop, 0, m.count, reports);
     }
-    lexeme::illegal_reported(reason::STRING_NOT_UTF8, 0, stop, reports)
+    Lexeme::illegal_reported(reason::STRING_NOT_UTF8, 0, stop, reports)
 }
 
 // The string literal at the front of a slice.

@@ -70,7 +70,7 @@ module _ (s : List ℕ) (i : ℕ) where
   -- the place of the next offset is one step further
   pub place_next : i < length s → place_at s (i + 1) ≡ step_place (place_at s i) (get_or s i 0)
   unfolding place_at
-  place_next h = rw (add-one, take-suc s i 0 h) (after_append first_place (take i s) (get_or s i 0 ∷ []))
+  place_next h = rw (add-one i, take-suc s i 0 h) (after_append first_place (take i s) (get_or s i 0 ∷ []))
 
   -- of the text cut off at an offset further on, i has the same place
   pub place_cut : (to : ℕ) → i ≤ to → place_at (take to s) i ≡ place_at s i

@@ -9,8 +9,8 @@ pub const RECORD_WIDTH: usize = 12;
 // How many numbers a report has.
 pub const REPORT_WIDTH: usize = 5;
 
-// What a token record says.
-#[derive(Clone, Copy)]
+// What a token record says. Kind and reason are numbers: the row of a token file can have any.
+#[derive(Clone, Copy, PartialEq, Eq, Debug)]
 pub struct Record {
     pub kind: usize,
     pub reason: usize,
@@ -27,12 +27,12 @@ pub struct Record {
 }
 
 impl Record {
-    // The record as it is stored.
+    // The record as it is stored. No `From`, which could not require that the numbers fit; and no ghost field says that they do, since the definitions
+    // make records and reports of any numbers (`record_of`, `report_at`).
     pub fn numbers(self) -> [i64; RECORD_WIDTH]
         requires { RecordFits self }
         ensures { result ≡ record_numbers self }
     {
-        let nanos = self.nanos;
         [
             self.kind as i64,
             self.reason as i64,
@@ -45,13 +45,13 @@ impl Record {
             self.size as i64,
             self.precision as i64,
             self.digits as i64,
-            nanos,
+            self.nanos,
         ]
     }
 }
 
 // What a report says.
-#[derive(Clone, Copy)]
+#[derive(Clone, Copy, PartialEq, Eq, Debug)]
 pub struct Report {
     pub reason: usize,
     pub detail: usize,

@@ -3,8 +3,9 @@ ghost use Rattle.std.specs.Prelude.{◌≡◌};
 ghost use Rattle.token.specs.Place.{first_place, step_place, place_at};
 ghost use Rattle.token.specs.Helpers.{Steppable, Walkable};
 
-// A byte's offset, and the line and the column at which it stands. Columns count bytes.
-#[derive(Clone, Copy)]
+// A byte's offset, and the line and the column at which it stands. Columns count bytes. No ghost field says that it is a place of a text (`Steppable`,
+// `Walkable`): a caller may hand over one that is not, which is refused.
+#[derive(Clone, Copy, PartialEq, Eq, Debug)]
 pub struct Place {
     pub offset: usize,
     pub line: usize,
@@ -40,8 +41,8 @@ impl Place {
         let column = self.column + 1;
         Self {
             offset,
-            line: self.line,
             column,
+            ..self
         }
     }
 }
@@ -62,8 +63,8 @@ pub fn walk(text: &[u8], from: Place, to: usize) -> Place
         let column = place.column + (end - at);
         let here = Place {
             offset: end,
-            line: place.line,
             column,
+            ..place
         };
         if to <= end {
             return here;

@@ -56,8 +56,8 @@ pub fn reason_ok(kind: usize, reason: usize) -> bool
     ensures { result ≡ reason_ok kind reason }
 {
     if kind == ILLEGAL {
-        return ((UNEXPECTED_CHARACTER <= reason) & (reason <= BAD_DURATION))
-            | (reason == BAD_TIMESTAMP);
+        matches!(reason, UNEXPECTED_CHARACTER..=BAD_DURATION | BAD_TIMESTAMP)
+    } else {
+        reason == NONE
     }
-    reason == NONE
 }

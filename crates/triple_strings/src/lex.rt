@@ -29,11 +29,11 @@ pub fn lex_triple_string(s: &[u8], mode: Mode) -> Lexeme
     let n = find_quotes(&s[3..]);
     let e = n + 3;
     if e < s.len() {
-        return lexeme::extent(TokenKind::String, n + 6, 0, dedent_len(&s[3..e]), 0);
+        return Lexeme::extent(TokenKind::String, n + 6, 0, dedent_len(&s[3..e]), 0);
     }
     match mode {
-        Mode::Strict => lexeme::illegal(reason::OPEN_TRIPLE_STRING, 0, open_triple_end(s)),
-        Mode::Tolerant => lexeme::extent(TokenKind::String, s.len(), 0, dedent_len(&s[3..e]), 1),
+        Mode::Strict => Lexeme::illegal(reason::OPEN_TRIPLE_STRING, 0, open_triple_end(s)),
+        Mode::Tolerant => Lexeme::extent(TokenKind::String, s.len(), 0, dedent_len(&s[3..e]), 1),
     }
 }
 

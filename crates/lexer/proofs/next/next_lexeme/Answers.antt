@@ -1,15 +1,14 @@
 -- `next_lexeme` skips the blanks; a mark is a token by its byte alone, any other is lexed from there. Assumes nothing.
-use mathlib.Core.Path.{sym, ◌∙◌}
+use mathlib.Core.Path.{◌≡◌}
+use Rattle.std.specs.Prelude.{Some}
 use Prim.Native.Nat.{◌≤◌}
 use lib.ListN.{length}
 use Rattle.base.specs.Bytes.{byte}
 use Rattle.base.proofs.Reaches.{rest_is}
-use Rattle.token.proofs.KindNumbers.{IsEof}
 use Rattle.lexer.specs.Helpers.{mark_of}
 use Rattle.lexer.specs.Token.{found_at}
 use Rattle.lexer.proofs.FoundToken.{start_le, from_quote}
 use Rattle.lexer.proofs.Marks.{mark_is}
-use borrow.Author.Tests.{eqb-false}
 use Rattle.lexer.proofs.next.next_lexeme.Goals.{After-skip_spaces-start}
 use Rattle.lexer.proofs.next.next_lexeme.Goals as goal
 
@@ -17,14 +16,12 @@ use Rattle.lexer.proofs.next.next_lexeme.Goals as goal
 start_in : (c : After-skip_spaces-start) → c.skip_spaces-start.result ≤ length c.args.text.now
 start_in c = rw c.skip_spaces-start.ensures (start_le _ _ c.requires.0)
 
-pub returns-then-not-is_eof : goal.returns-then-not-is_eof
+pub returns-in-Some : goal.returns-in-Some
 unfolding found_at
-returns-then-not-is_eof c =
-    let is_mark : IsEof (mark_of (byte c.args.text.now c.skip_spaces-start.result)) → ⊥ =
-    rw (← c.peek.ensures, ← c.mark-kind.ensures) (eqb-false _ _ (sym c.is_eof.ensures ∙ c.if-not-is_eof.true)) in
+returns-in-Some c =
     let a = c.args in
-    rw (← c.skip_spaces-start.ensures, mark_is a.text.now c.skip_spaces-start.result is_mark a.mode a.limit)
-    (rw (← c.peek.ensures, ← c.mark-kind.ensures, ← c.mark_lexeme-lexeme.ensures))
+    let is_mark : mark_of (byte a.text.now c.skip_spaces-start.result) ≡ Some c.in-Some.kind = rw (← c.peek.ensures, ← c.mark.ensures) c.in-Some.is in
+    rw (← c.skip_spaces-start.ensures, mark_is a.text.now c.skip_spaces-start.result _ is_mark a.mode a.limit, ← c.mark_lexeme-lexeme.ensures)
 
 pub slice_bounds-lex_in-count : goal.slice_bounds-lex_in-count
 slice_bounds-lex_in-count c =

@@ -80,10 +80,10 @@ put_string_notes-requires c =
     let at = goal.at.put_string_notes-requires c in
     let q = c.requires in
     let w = q.walkable in
-    rw c.mode.ensures
+    rw c.from.ensures
     (record { true_place = w.true_place; inside = notes_in_text q; short = w.short; room = rw (literal at.Else-at_quotes) at q.fits })
 
 pub returns : goal.returns
 returns c =
     let at = goal.at.returns c in
-    rw ((literal at.Else-at_quotes), ← c.mode.ensures) c.put_string_notes.ensures
+    rw ((literal at.Else-at_quotes), ← c.from.ensures) c.put_string_notes.ensures

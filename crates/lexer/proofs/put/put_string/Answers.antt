@@ -35,11 +35,11 @@ put_string-requires c =
     let f = p.0 in (
       string_in_lem _ _ f.some,
       p.1,
-      rw c.mode.ensures (rw (f.counted, f.ends) at (literal_sized _ _ f.some (one at.Else-at_quotes) f.limit)),
+      rw c.from.ensures (rw (f.counted, f.ends) at (literal_sized _ _ f.some (one at.Else-at_quotes) f.limit)),
     )
 
 pub returns : goal.returns
 returns c =
     let at = goal.at.returns c in
-    rw (literal_value _ _ c.requires.0.some (one at.Else-at_quotes), ← c.mode.ensures)
+    rw (literal_value _ _ c.requires.0.some (one at.Else-at_quotes), ← c.from.ensures)
     c.put_string.ensures

@@ -1,6 +1,6 @@
 -- For `try_offset` and `try_offsets`: the turns of their loops, over the bytes at one offset and over the offsets. By the laws of the list while it is filled.
 -- Assumes nothing.
-use mathlib.Core.Path.{◌≡◌, refl, ap, ◌∙◌}
+use mathlib.Core.Path.{◌≡◌, refl, ◌∙◌}
 use mathlib.Core.List.{List, [], ◌++◌}
 use Prim.Native.Nat.{ℕ, suc, ◌+◌, ◌-◌, ◌*◌, ◌≤◌, ◌<◌, zero-le}
 use native.Mathlib.Numerals.{add-one}
@@ -122,9 +122,9 @@ module _ {run₀ : List ℕ} {list₀ : List ℤ} {run : List ℕ} {list : List 
       }
 
   -- all of them
-  pub walking_last : length run ≤ i → AllTried run₀ list₀ list count
+  pub walking_last : length run₀ ≤ i → AllTried run₀ list₀ list count
   unfolding suggestions_of
   walking_last h =
-      let e : i ≡ length run₀ = omega (arith, w.inside, ap length w.same) in
+      let e : i ≡ length run₀ = omega (arith, w.inside) in
       let f = rw e at w.filled in
       record { counted = f.counted; stored = f.stored }

@@ -5,7 +5,6 @@ ghost use Rattle.suggest.specs.Calls.{longest_run};
 ghost use Rattle.suggest.specs.Helpers.{can_stand, Cut, ByteTried, OffsetTried, AllTried};
 
 use crate::pieces::{Around, see_around, surroundings};
-use crate::seen::Seen;
 use base::class::{is_digit, is_duration_unit};
 use suggestion_list::{Suggestion, add};
 
@@ -32,18 +31,18 @@ fn try_byte(text: &[u8], i: usize, b: u8, around: Around, list: &mut [i64], coun
     requires { (i < 0x10000) × (count < 0x10000) × Cut text.now around }
     ensures { ByteTried text.now i b list.old count list.new result }
 {
-    match see_around(text, around) {
-        Seen::Duration(nanos) => add(
-            list,
-            count,
-            Suggestion {
-                nanos,
-                offset: i,
-                byte: b,
-            },
-        ),
-        Seen::Other => count,
-    }
+    let Some(nanos) = see_around(text, around) else {
+        return count;
+    };
+    add(
+        list,
+        count,
+        Suggestion {
+            nanos,
+            offset: i,
+            byte: b,
+        },
+    )
 }
 
 // Adds what each printable byte other than the run's own gives at the offset `i`. The run is as it was afterwards.
@@ -54,13 +53,11 @@ fn try_offset(run: &mut [u8], i: usize, list: &mut [i64], count: usize) -> usize
     let around = surroundings(run, i);
     let own = run[i];
     let mut n = count;
-    let mut b = FIRST;
-    while b <= LAST {
+    for b in FIRST..=LAST {
         if (b != own) & can_stand(b) {
             run[i] = b;
             n = try_byte(run, i, b, around, list, n);
         }
-        b += 1;
     }
     run[i] = own;
     n
@@ -72,10 +69,8 @@ fn try_offsets(run: &mut [u8], list: &mut [i64]) -> usize
     ensures { AllTried run.old list.old list.new result }
 {
     let mut count = 0;
-    let mut i = 0;
-    while i < run.len() {
+    for i in 0..run.len() {
         count = try_offset(run, i, list, count);
-        i += 1;
     }
     count
 }

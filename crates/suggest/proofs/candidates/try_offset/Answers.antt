@@ -9,9 +9,6 @@ use Rattle.suggest.proofs.Turns.{trying_first, trying_none, trying_byte, trying_
 use Rattle.suggest.proofs.candidates.try_offset.Goals.{then-b-own, else-b-own}
 use Rattle.suggest.proofs.candidates.try_offset.Goals as goal
 
-pub surroundings-around-requires : goal.surroundings-around-requires
-surroundings-around-requires c = let p = c.requires in (p.0, p.1)
-
 pub loop-b-init : goal.loop-b-init
 loop-b-init c = trying_first
 

@@ -11,16 +11,11 @@ loop-i-init c = walking_first
 pub try_offset-count-requires : goal.try_offset-count-requires
 try_offset-count-requires c = let w = c.loop-i.invariant in
     let e = ap length w.same in
-    (c.loop-i-test.true, omega (arith, c.requires), w.few)
-
-pub loop-i-smaller : goal.loop-i-smaller
-loop-i-smaller c = omega (arith, c.loop-i-test.true, c.try_offset-count.auto.run)
+    (omega (arith, c.loop-i-test.true), omega (arith, c.requires), w.few)
 
 pub loop-i-preserved : goal.loop-i-preserved
-loop-i-preserved c = let l = c.loop-i in
-    let n = ap length l.invariant.same in
-    walking_next l.invariant (omega (arith, c.loop-i-test.true)) c.try_offset-count.ensures.0 c.try_offset-count.ensures.1
-    c.try_offset-count.auto.list
+loop-i-preserved c =
+    walking_next c.loop-i.invariant c.loop-i-test.true c.try_offset-count.ensures.0 c.try_offset-count.ensures.1 c.try_offset-count.auto.list
 
 pub shape_of-run : goal.shape_of-run
 shape_of-run c = ap length c.loop-i.invariant.same

@@ -8,7 +8,7 @@ use Rattle.token_file.specs.Calls.{WritesFile, ReadsFile, written_number, writte
 use Rattle.token_file.specs.declared.write.Written.{Written}
 use Rattle.token_file.specs.declared.read.Loaded.{Loaded}
 use Rattle.suggest.specs.Calls.{suggested_number, suggested_value, SuggestsDurations}
-use Rattle.suggest.specs.declared.call.Suggested.{Suggested}
+use Rattle.suggest.specs.declared.call.Refusal.{Refusal}
 use Rattle.pxf.specs.Answers.{one_value}
 use Rattle.pxf.specs.Suggestions.{SuggestionsGiven}
 use Rattle.pxf.specs.TokenFiles.{FileWritten, FileRead}
@@ -25,7 +25,7 @@ file_read w en ev ea =
     let e = w.answer in
     record { number = rw e at en; answer = rw (ev, e) at ea; buffer = rw e at w.buffer }
 
-pub suggestions_given : {run : List ℕ} {list list' : List ℤ} {r : Suggested} → SuggestsDurations run list r list' → {n v : ℕ} {a : List ℤ}
+pub suggestions_given : {run : List ℕ} {list list' : List ℤ} {r : Result ℕ Refusal} → SuggestsDurations run list r list' → {n v : ℕ} {a : List ℤ}
     → n ≡ suggested_number r → v ≡ suggested_value r → a ≡ one_value v → SuggestionsGiven run list n list' a
 suggestions_given w en ev ea =
     let e = w.answer in

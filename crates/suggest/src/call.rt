@@ -2,7 +2,7 @@
 ghost use Rattle.std.specs.Prelude.{◌≡◌};
 ghost use Rattle.suggest.specs.Calls.{refusal_number, good_run, SuggestsDurations};
 
-use crate::candidates::{BYTES, LONGEST, count_all, fill_all};
+use crate::candidates::{BYTES, LONGEST, ShortRun, count_all, fill_all};
 use base::answer::Numbered;
 use suggestion_list::ENTRY_WIDTH;
 use utf8::check::{Verdict, check};
@@ -48,10 +48,9 @@ pub fn suggest_durations(run: &[u8], list: &mut [i64]) -> Result<usize, Refusal>
     if !good_run(run) {
         return Err(Refusal::BadRun);
     }
-    if list.len() < run.len() * BYTES * ENTRY_WIDTH {
-        if list.len() < count_all(run) * ENTRY_WIDTH {
-            return Err(Refusal::ListShort);
-        }
+    let short = ShortRun { bytes: run };
+    if list.len() < run.len() * BYTES * ENTRY_WIDTH && list.len() < count_all(short) * ENTRY_WIDTH {
+        return Err(Refusal::ListShort);
     }
-    Ok(fill_all(run, list))
+    Ok(fill_all(short, list))
 }

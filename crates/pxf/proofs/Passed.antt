@@ -1,5 +1,6 @@
 -- For `pxf_write_token_file`, `pxf_read_token_file` and `pxf_suggest_durations`: what a call's contract says of its enum holds of the documents' numbers. By
 -- the equation of the answer. Assumes nothing.
+use Rattle.std.specs.Prelude.{Result}
 use mathlib.Core.Path.{◌≡◌}
 use mathlib.Core.List.{List}
 use Prim.Native.Nat.{ℕ}

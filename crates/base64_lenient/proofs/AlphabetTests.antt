@@ -2,11 +2,10 @@
 use mathlib.Core.Path.{◌≡◌, refl}
 use mathlib.Core.Bool.{Bool, true, false, ◌&&◌, ◌||◌}
 use mathlib.Core.List.{List}
-use Prim.Native.Nat.{ℕ, ◌+◌, ◌*◌, ◌≤◌, ◌<◌}
+use Prim.Native.Nat.{ℕ, ◌+◌, ◌≤◌, ◌<◌}
 use lib.Bits.{bit_and, bit_or}
 use lib.Dec.{eqb, leb}
 use lib.ListN.{length, drop}
-use mir.Val.{bool_byte}
 use Rattle.base.specs.Bytes.{byte}
 use Rattle.base.specs.Blocks.{all_pass}
 use Rattle.base.proofs.Blocks.{all_turn, all_end}
@@ -26,13 +25,6 @@ standard_test = tests_agree (λ (b : ℕ). (in_both b || eqb b 43) || eqb b 47) 
 pub url_test : (b : ℕ) → b < 256 → (in_both b || eqb b 45) || eqb b 95 ≡ is_in url_safe b
 unfolding in_both value_in
 url_test = tests_agree (λ (b : ℕ). (in_both b || eqb b 45) || eqb b 95) (is_in url_safe) tt
-
--- two tests as bits, as the code joins them
-pub bits_joined : (s u : Bool) → bool_byte s + bool_byte u * 2 ≡ as_bits s u
-bits_joined true true = refl
-bits_joined true false = refl
-bits_joined false true = refl
-bits_joined false false = refl
 
 -- the bits that two numbers share
 pub bits_shared : (s u x y : Bool) → bit_and (as_bits s u) (as_bits x y) ≡ as_bits (s && x) (u && y)
@@ -58,9 +50,6 @@ pub record Left (s : List ℕ) (left i : ℕ) : Type 0 where
   pub are : left ≡ as_bits first second
   pub standard_rest : first && all_pass (is_in standard) (drop i s) ≡ all_pass (is_in standard) s
   pub url_rest : second && all_pass (is_in url_safe) (drop i s) ≡ all_pass (is_in url_safe) s
-
-pub left_first : (s : List ℕ) → Left s 3 0
-left_first s = record { first = true; second = true; are = refl; standard_rest = refl; url_rest = refl }
 
 module _ (s : List ℕ) (left i : ℕ) (u : Left s left i) where
   pub left_turn : i < length s → (k : ℕ) → k ≡ alphabets_of (byte s i) → Left s (bit_and left k) (i + 1)

@@ -1,5 +1,6 @@
 -- For `decode_bytes` and its callers: the answer and the buffer by the verdict on the run. A run that decodes is UTF-8, so that the verdict alone decides.
 -- Assumes nothing.
+use Rattle.std.specs.Prelude.{Some, None, Result, Ok, Err}
 use mathlib.Core.Path.{◌≡◌, refl, sym, ap, ◌∙◌}
 use mathlib.Core.Bool.{true, and-false}
 use mathlib.Core.List.{List}
@@ -16,9 +17,8 @@ use Rattle.utf8.proofs.Valid.{octets_valid}
 use Rattle.base64_lenient.specs.Lenient.{decodes, decoded}
 use Rattle.base64_lenient.specs.Calls.{decoded_value, is_decodable, decode_answer, DecodesBytes}
 use Rattle.base64_lenient.specs.Helpers.{judge_of, bytes_from}
-use Rattle.base64_lenient.specs.declared.judge.Judged.TheVariants.{Decodes, Fails}
-use Rattle.base64_lenient.specs.declared.decode.Decoded.{Decoded}
-use Rattle.base64_lenient.specs.declared.decode.Decoded.TheVariants.{Bytes, BadRun, BufferShort}
+use Rattle.base64_lenient.specs.declared.decode.Refusal.{Refusal}
+use Rattle.base64_lenient.specs.declared.decode.Refusal.TheVariants.{BadRun, BufferShort}
 use Rattle.base64_lenient.proofs.Rfc4648.{decodes_rfc4648}
 use Rattle.base64_lenient.proofs.Values.{decoded_is}
 
@@ -28,14 +28,14 @@ decodable_is run =
     by_cases (decodes run) (λ e. rw (e, eq-eqb _ _ (octets_valid (decodes_rfc4648.utf8 run e)))) (λ e. rw (e, and-false (eqb (valid_to run) (length run))))
 
 -- the run fails
-pub refused : (run out : List ℕ) → judge_of run ≡ Fails → DecodesBytes run out BadRun out
+pub refused : (run out : List ℕ) → judge_of run ≡ None → DecodesBytes run out (Err BadRun) out
 unfolding judge_of decode_answer
 refused run out j =
     let e = (pick_second (decodes run) (λ z. zero_one (cc)) j).0 in
     record { answer = rw (decodable_is run, e); buffer = refl }
 
 -- the run decodes to n bytes
-module _ (run : List ℕ) (n : ℕ) (j : judge_of run ≡ Decodes n) where
+module _ (run : List ℕ) (n : ℕ) (j : judge_of run ≡ Some n) where
   by_verdict : (decodes run ≡ true) × (length (decoded run) ≡ n)
   unfolding judge_of
   by_verdict = let e = pick_first (decodes run) (λ z. zero_one (cc)) j in (e.0, let z = e.1 in cc)
@@ -44,11 +44,11 @@ module _ (run : List ℕ) (n : ℕ) (j : judge_of run ≡ Decodes n) where
   bytes_written = ap length (decoded_is run by_verdict.0) ∙ by_verdict.1
 
   module _ (out : List ℕ) where
-    pub short : length out < n → DecodesBytes run out BufferShort out
+    pub short : length out < n → DecodesBytes run out (Err BufferShort) out
     unfolding decode_answer
     short h = record { answer = rw (decodable_is run, by_verdict.0, by_verdict.1, lt-ltb (length out) n h); buffer = refl }
 
-    pub filled : n ≤ length out → (o : List ℕ) → o ≡ sets out 0 (bytes_from run 0) → DecodesBytes run out (Bytes n) o
+    pub filled : n ≤ length out → (o : List ℕ) → o ≡ sets out 0 (bytes_from run 0) → DecodesBytes run out (Ok n) o
     unfolding decode_answer
     filled h o q =
         record {
@@ -57,24 +57,23 @@ module _ (run : List ℕ) (n : ℕ) (j : judge_of run ≡ Decodes n) where
         }
 
 -- no more bytes are written than the buffer has, before the call and after it
-pub decoded_inside : (run : List ℕ) (n : ℕ) (r : Decoded) → r ≡ decode_answer run n → decoded_value r ≤ n
+pub decoded_inside : (run : List ℕ) (n : ℕ) (r : Result ℕ Refusal) → r ≡ decode_answer run n → decoded_value r ≤ n
 unfolding decode_answer
 decoded_inside run n r e =
     rw e
-    (pick_case (λ (x : Decoded). decoded_value x ≤ n) (is_decodable run)
-    (λ p. pick_case (λ (x : Decoded). decoded_value x ≤ n) (ltb n (length (decoded run))) (λ q. omega arith) (λ q. ltb-false n (length (decoded run)) q))
+    (pick_case (λ (x : Result ℕ Refusal). decoded_value x ≤ n) (is_decodable run)
+    (λ p. pick_case (λ (x : Result ℕ Refusal). decoded_value x ≤ n) (ltb n (length (decoded run))) (λ q. omega arith) (λ q. ltb-false n (length (decoded run)) q))
     (λ p. omega arith))
 
-bytes_are : (run : List ℕ) (m n : ℕ) → decode_answer run m ≡ Bytes n → n ≡ length (decoded run)
+bytes_are : (run : List ℕ) (m n : ℕ) → decode_answer run m ≡ Ok n → n ≡ length (decoded run)
 unfolding decode_answer
 bytes_are run m n e =
     let f = (pick_first (is_decodable run) (λ z. zero_one (cc)) e).1 in
     let g = (pick_second (ltb m (length (decoded run))) (λ z. zero_one (cc)) f).1 in
     cc
 
-pub value_inside : {run out out' : List ℕ} (r : Decoded) → DecodesBytes run out r out' → decoded_value r ≤ length out'
-value_inside {run} {out} (Bytes n) w =
+pub value_inside : {run out out' : List ℕ} (r : Result ℕ Refusal) → DecodesBytes run out r out' → decoded_value r ≤ length out'
+value_inside {run} {out} (Ok n) w =
     let e = bytes_are run (length out) n (sym w.answer) in
     omega (arith, ap length w.buffer, length-append (decoded run) (drop (length (decoded run)) out))
-value_inside BadRun w = omega arith
-value_inside BufferShort w = omega arith
+value_inside (Err e) w = omega arith

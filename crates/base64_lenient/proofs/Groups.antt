@@ -7,13 +7,13 @@ use Prim.Native.Nat.{ℕ, zero, suc, ◌+◌, ◌*◌, ◌/◌, ◌%◌, ◌≤�
 use native.Mathlib.Numerals.{add-one}
 use native.Mathlib.Omega.{arith}
 use borrow.Author.Tests.{ltb-true, ltb-false, eqb-true, eqb-false}
-use lib.Dec.{ltb, eqb, lit<}
-use lib.ListN.{length, take, drop, set, get_or, replicate, length-set, drop_of_length-le}
+use lib.Dec.{ltb, eqb}
+use lib.ListN.{length, take, drop, set, length-set, drop_of_length-le}
 use lib.Seq.{sets, length-sets, drop-cons, take-suc-set, append_snoc, get_or-set_same, get_or-set_other}
 use Rattle.base.specs.Bytes.{byte}
 use Rattle.base.proofs.Tests.{by_cases, and_left, and_right}
 use Rattle.base.proofs.Stores.{empty}
-use Rattle.base.proofs.Storings.{Storing, storing_room, storing_more, storing_end}
+use Rattle.base.proofs.Storings.{Storing, storing_room, storing_more}
 use Rattle.base64_lenient.specs.Rfc4648.{pad}
 use Rattle.base64_lenient.specs.Lenient.{six_bits, regroup}
 use Rattle.base64_lenient.specs.Helpers.{values_of, bytes_from, Gathered, NextGroup, WholeGroups}
@@ -77,15 +77,6 @@ module _ (v : List ℕ) (h : length v ≡ 4) where
   group_then l = rw (four_of v h)
 
 -- ---- the next group
-
-zeros_small : (n k : ℕ) → get_or (replicate n 0) k 0 < 64
-zeros_small zero k = lit< tt
-zeros_small (suc n) zero = lit< tt
-zeros_small (suc n) (suc k) = zeros_small n k
-
-pub gathered_first : (run : List ℕ) (i : ℕ) → i ≤ length run → Gathered run i (replicate 4 0) 0 i
-gathered_first run i h =
-    record { few = omega arith; size = refl; onward = omega arith; inside = h; are = refl; small = zeros_small 4 }
 
 -- nothing is left at the end and before a pad character
 pub none_at_end : (run : List ℕ) (j : ℕ) → length run ≤ j → values_of (drop j run) ≡ []
@@ -194,10 +185,6 @@ module _ (run : List ℕ) (i : ℕ) {all out₀ out : List ℕ} {at p : ℕ} (u 
     group_size : length stored ≡ g.count * 3 / 4
     group_size = bytes_size g.values w.gathered.size g.count w.gathered.few
 
-    few_left : g.count < 4 → bytes_from run g.end ≡ []
-    unfolding regroup
-    few_left h = ap regroup (w.last h)
-
     group_cut : bytes_from run i ≡ stored ++ bytes_from run g.end
     unfolding regroup
     group_cut =
@@ -212,9 +199,6 @@ module _ (run : List ℕ) (i : ℕ) {all out₀ out : List ℕ} {at p : ℕ} (u 
     module _ (o : List ℕ) (e : o ≡ sets out p stored) where
       more : Storing all out₀ at (bytes_from run g.end) o (p + g.count * 3 / 4)
       more = storing_more u stored (bytes_from run g.end) group_cut group_size o e
-
-      pub last_stored : g.count < 4 → o ≡ sets out₀ at all
-      last_stored h = storing_end more (few_left h)
 
       pub group_stored : 4 ≤ g.count → Storing all out₀ at (bytes_from run g.end) o (p + 3)
       group_stored h =

@@ -1,5 +1,6 @@
 -- For `Seen` and `judge`: what is seen of a run, one byte after the other, many characters at once, and from one part of the run to the next. By cases
 -- on the byte. Assumes nothing.
+use Rattle.std.specs.Prelude.{None}
 use mathlib.Core.Path.{◌≡◌, refl, sym, ap, ◌∙◌}
 use mathlib.Core.Bool.{Bool, true, false, ◌&&◌}
 use mathlib.Core.List.{List, [], ◌∷◌, ◌++◌}
@@ -19,7 +20,6 @@ use Rattle.base64_lenient.specs.Rfc4648.{Alphabet, standard, url_safe}
 use Rattle.base64_lenient.specs.Lenient.{is_line_break, is_pad, is_in}
 use Rattle.base64_lenient.specs.Helpers.{in_both, as_bits, Bits, alphabets_of, characters_seen, nothing_seen, seen_one, seen_all, judged_seen, CanSee, SeenTo}
 use Rattle.base64_lenient.specs.declared.judge.Seen.{Seen}
-use Rattle.base64_lenient.specs.declared.judge.Judged.TheVariants.{Fails}
 use Rattle.base64_lenient.proofs.Characters.{in_character}
 use Rattle.base64_lenient.proofs.AlphabetTests.{bits_shared}
 
@@ -88,7 +88,7 @@ over_all P f w [] h = h
 over_all P f w (b ∷ l) h = over_all P f (seen_one w b) l (f w b h)
 
 -- where no alphabet is left, the run fails
-pub none_fails : (w : Seen) (l : List ℕ) → w.alphabets ≡ 0 → judged_seen (seen_all w l) ≡ Fails
+pub none_fails : (w : Seen) (l : List ℕ) → w.alphabets ≡ 0 → judged_seen (seen_all w l) ≡ None
 unfolding judged_seen
 none_fails w l e = rw (over_all (λ (x : Seen). x.alphabets ≡ 0) one_none w l e)
 
@@ -112,9 +112,6 @@ pub record Going (s : List ℕ) (w₀ w : Seen) (i : ℕ) : Type 0 where
   pub same : seen_all w (drop i s) ≡ seen_all w₀ s
   pub characters : w.characters ≤ w₀.characters + i
   pub pads : w.pads ≤ w₀.pads + i
-
-pub going_first : (s : List ℕ) (w : Seen) → CanSee w (length s) → Going s w w 0
-going_first s w g = record { bits = g.bits; same = refl; characters = omega arith; pads = omega arith }
 
 module _ (s : List ℕ) (w₀ w : Seen) (i : ℕ) (u : Going s w₀ w i) where
   pub going_room : CanSee w₀ (length s) → i < length s → CanSee w 1

@@ -1,5 +1,6 @@
 -- For `judge`: what was seen of a whole run tells whether it decodes and to how many bytes. By induction on the run, from the first pad character on, and
 -- then for the characters before it. Assumes nothing.
+use Rattle.std.specs.Prelude.{Option, Some, None}
 use mathlib.Core.Path.{◌≡◌, refl, sym, ap, ◌∙◌}
 use mathlib.Core.Bool.{Bool, true, false, not, ◌&&◌, ◌||◌}
 use mathlib.Core.List.{List, [], ◌∷◌, map}
@@ -17,8 +18,6 @@ use Rattle.base64_lenient.specs.Lenient.{is_line_break, without_breaks, before_p
 use Rattle.base64_lenient.specs.Lenient.{regroup, decoded}
 use Rattle.base64_lenient.specs.Helpers.{judge_of, as_bits, characters_seen, nothing_seen, seen_one, seen_all, judged_seen, SeenTo}
 use Rattle.base64_lenient.specs.declared.judge.Seen.{Seen}
-use Rattle.base64_lenient.specs.declared.judge.Judged.{Judged}
-use Rattle.base64_lenient.specs.declared.judge.Judged.TheVariants.{Decodes, Fails}
 use Rattle.base64_lenient.proofs.Rfc4648.{no_single}
 use Rattle.base64_lenient.proofs.AlphabetTests.{bits_shared}
 use Rattle.base64_lenient.proofs.Sights.{seen_break, seen_pad, seen_character, seen_late, none_fails}
@@ -28,8 +27,8 @@ abbrev size : ℕ → ℕ
 size n = n / 4 * 3 + n % 4 * 3 / 4
 
 -- the verdict on n characters, and on what stands from the first pad character on
-abbrev verdict : Bool → ℕ → Bool → ℕ → Judged
-verdict characters n pads k = pick (characters && (pads && right_pads n k)) (Decodes (size n)) Fails
+abbrev verdict : Bool → ℕ → Bool → ℕ → Option ℕ
+verdict characters n pads k = pick (characters && (pads && right_pads n k)) (Some (size n)) None
 
 some_bits : (s u : Bool) → not (eqb (as_bits s u) 0) ≡ s || u
 some_bits true true = refl
@@ -51,19 +50,10 @@ judged_none : (w : Seen) → judged_seen (seen_all w []) ≡ judged_seen w
 unfolding seen_all
 judged_none w = refl
 
--- a line break, and any other byte, in front
-break_first : (b : ℕ) (l : List ℕ) → is_line_break b ≡ true → without_breaks (b ∷ l) ≡ without_breaks l
-unfolding without_breaks
-break_first b l e = rw e
-
-other_first : (b : ℕ) (l : List ℕ) → is_line_break b ≡ false → without_breaks (b ∷ l) ≡ b ∷ without_breaks l
-unfolding without_breaks
-other_first b l e = rw e
-
 -- ---- from the first pad character on: k of them were seen
 
 module _ (s u : Bool) (n : ℕ) where
-  abbrev padded_by : ℕ → List ℕ → Judged
+  abbrev padded_by : ℕ → List ℕ → Option ℕ
   padded_by k t = verdict (s || u) n (each is_pad t) (k + length t)
 
   from_pads_lem : (k : ℕ) → eqb k 0 ≡ false → (l : List ℕ)
@@ -81,7 +71,7 @@ module _ (s u : Bool) (n : ℕ) where
 
 -- ---- before it
 
-abbrev spelled : Bool → Bool → ℕ → List ℕ → List ℕ → Judged
+abbrev spelled : Bool → Bool → ℕ → List ℕ → List ℕ → Option ℕ
 spelled s u n cs ps =
     verdict ((s && each (is_in standard) cs) || (u && each (is_in url_safe) cs)) (n + length cs) (each is_pad ps) (length ps)
 
@@ -140,7 +130,7 @@ judged_is run =
     ∙ rw o
     (by_cases (in_one_alphabet cs && (each is_pad ps && right_pads (length cs) (length ps)))
     (λ h. let r = and_right (each is_pad ps) _ (and_right (in_one_alphabet cs) _ h) in
-    rw h (ap Decodes (sym (regroup_size (map six_bits cs) (λ e. no_single (length cs) (length ps) r (rw (length-map cs six_bits) at e)) ∙ rw
+    rw h (ap Some (sym (regroup_size (map six_bits cs) (λ e. no_single (length cs) (length ps) r (rw (length-map cs six_bits) at e)) ∙ rw
     (length-map cs six_bits)))))
     (λ h. rw h))
 
@@ -151,5 +141,5 @@ module _ (run : List ℕ) (w : Seen) (i : ℕ) (u : SeenTo run w i) where
       let e : judged_seen (seen_all w []) ≡ judged_seen (seen_all nothing_seen run) = ap judged_seen (rw (drop_of_length-le run h) at u.same) in
       sym (judged_none w) ∙ e ∙ judged_is run
 
-  pub dead_is : w.alphabets ≡ 0 → Fails ≡ judge_of run
+  pub dead_is : w.alphabets ≡ 0 → None ≡ judge_of run
   dead_is z = sym (none_fails w (drop i run) z) ∙ ap judged_seen u.same ∙ judged_is run

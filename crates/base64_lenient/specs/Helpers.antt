@@ -1,24 +1,22 @@
 -- Helper definitions, for proofs and inner contracts alone: what is seen of a run byte by byte, and its characters' values group by group.
-use Rattle.std.specs.Prelude.{◌≡◌, Bool, true, false, not, ◌&&◌, List, [], ◌∷◌, ◌++◌, ℕ, ◌+◌, ◌*◌, ◌/◌, ◌%◌, ◌≤◌, ◌<◌, eqb, ltb, length, take, drop, get_or}
+use Rattle.std.specs.Prelude.{◌≡◌, Bool, true, false, not, ◌&&◌, List, [], ◌∷◌, ◌++◌, ℕ, ◌+◌, ◌*◌, ◌/◌, ◌%◌, ◌≤◌, ◌<◌, eqb, ltb, length, take, drop, get_or, Option, Some, None}
 use Rattle.std.specs.Int.Bits.{bit_and}
 use Rattle.std.proofs.lemmas.List.Edits.{sets}
 use Rattle.base.specs.Choice.{pick}
 use Rattle.base64_lenient.specs.Rfc4648.{standard, url_safe}
 use Rattle.base64_lenient.specs.Lenient.{is_line_break, is_pad, is_in, six_bits, right_pads, decodes, regroup, decoded}
-use Rattle.base64_lenient.specs.declared.judge.Judged.{Judged}
-use Rattle.base64_lenient.specs.declared.judge.Judged.TheVariants.{Decodes, Fails}
 use Rattle.base64_lenient.specs.declared.judge.Seen.{Seen}
 use Rattle.base64_lenient.specs.declared.decode.Group.{Group}
 
 -- Types of the code (src/judge.rt, src/decode.rt). `Seen`: which alphabets have all characters of what was seen, as bits, and how many characters and
 -- pad characters it has. `Passed`: what was seen, and where it ends. `Group`: the values of at most four characters, how many they are, and where
--- they end. `Judged`: a run `Decodes n`, to so many bytes, or it `Fails`.
+-- they end.
 
 -- ---- judging
 
--- the verdict on a run, and how many bytes it decodes to
-unfoldable pub judge_of : List ℕ → Judged
-judge_of run = pick (decodes run) (Decodes (length (decoded run))) Fails
+-- how many bytes a run decodes to, if it does
+unfoldable pub judge_of : List ℕ → Option ℕ
+judge_of run = pick (decodes run) (Some (length (decoded run))) None
 
 -- both alphabets have the byte
 unfoldable pub in_both : ℕ → Bool
@@ -62,9 +60,9 @@ seen_all w [] = w
 seen_all w (b ∷ s) = seen_all (seen_one w b) s
 
 -- what a run is of which this was seen
-unfoldable pub judged_seen : Seen → Judged
+unfoldable pub judged_seen : Seen → Option ℕ
 judged_seen w =
-    pick (not (eqb w.alphabets 0) && right_pads w.characters w.pads) (Decodes (w.characters / 4 * 3 + w.characters % 4 * 3 / 4)) Fails
+    pick (not (eqb w.alphabets 0) && right_pads w.characters w.pads) (Some (w.characters / 4 * 3 + w.characters % 4 * 3 / 4)) None
 
 -- n bytes more can be seen
 pub record CanSee (w : Seen) (n : ℕ) : Type 0 where

@@ -302,10 +302,8 @@ pub fn alphabets_of(s: &[u8]) -> u8
     ensures { result ≡ as_bits (all_pass (is_in standard) s.now) (all_pass (is_in url_safe) s.now) }
 {
     let mut left = 3;
-    let mut i = 0;
-    while i < s.len() {
-        left = left & alphabet_bits(s[i]);
-        i += 1;
+    for b in s {
+        left &= alphabet_bits(*b);
     }
     left
 }

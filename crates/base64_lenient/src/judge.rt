@@ -6,18 +6,11 @@ ghost use Rattle.base64_lenient.specs.Helpers.{judge_of, characters_seen, nothin
 use crate::alphabet::{alphabet_bits, alphabets_of, in_both};
 use base::find::BLOCK;
 
-// What a run is to the decoder.
-#[derive(Clone, Copy)]
-pub enum Judged {
-    // It decodes to so many bytes.
-    Decodes(usize),
-    Fails,
-}
-
 // How many bytes are tested at once.
 const ROW: usize = 2 * BLOCK;
 
-// What was seen of a run: which alphabets have all of its characters, as bits, how many there are, and how many pad characters.
+// What was seen of a run: which alphabets have all of its characters, as bits, so that several bytes can be tested by one instruction, how many characters
+// there are, and how many pad characters.
 #[derive(Clone, Copy)]
 struct Seen {
     alphabets: u8,
@@ -61,15 +54,11 @@ impl Seen {
         requires { CanSee self 1 }
         ensures { result ≡ seen_one self b }
     {
-        let alphabets = self.alphabets;
-        let characters = self.characters;
-        let pads = self.pads;
         // Most bytes are such, so that they are asked first.
-        if (pads == 0) & in_both(b) {
+        if (self.pads == 0) & in_both(b) {
             return Seen {
-                alphabets,
-                characters: characters + 1,
-                pads,
+                characters: self.characters + 1,
+                ..self
             };
         }
         if (b == b'\r') | (b == b'\n') {
@@ -77,22 +66,19 @@ impl Seen {
         }
         if b == b'=' {
             return Seen {
-                alphabets,
-                characters,
-                pads: pads + 1,
+                pads: self.pads + 1,
+                ..self
             };
         }
-        if pads == 0 {
-            return Seen {
-                alphabets: alphabets & alphabet_bits(b),
-                characters: characters + 1,
-                pads,
-            };
-        }
+        let alphabets = if self.pads == 0 {
+            self.alphabets & alphabet_bits(b)
+        } else {
+            0
+        };
         Seen {
-            alphabets: 0,
-            characters: characters + 1,
-            pads,
+            alphabets,
+            characters: self.characters + 1,
+            ..self
         }
     }
 
@@ -102,10 +88,8 @@ impl Seen {
         ensures { result ≡ seen_all self s.now }
     {
         let mut seen = self;
-        let mut i = 0;
-        while i < s.len() {
-            seen = seen.one(s[i]);
-            i += 1;
+        for b in s {
+            seen = seen.one(*b);
         }
         seen
     }
@@ -124,6 +108,7 @@ impl Seen {
         let characters = self.characters;
         let mut left = self.alphabets;
         let mut i = at;
+        // By the place, which is part of the answer: an iterator over rows would have to count it beside them.
         while ROW <= run.len() - i {
             let end = i + ROW;
             let next = left & alphabets_of(&run[i..end]);
@@ -145,43 +130,31 @@ impl Seen {
         ((pads == 0) & (left != 1)) | (((pads == 1) & (left == 3)) | ((pads == 2) & (left == 2)))
     }
 
-    // What a run is of which this is all.
-    fn judged(self) -> Judged
+    // To how many bytes a run decodes of which this is all, if it does.
+    fn judged(self) -> Option<usize>
         ensures { result ≡ judged_seen self }
     {
         let n = self.characters;
-        if (self.alphabets != 0) & self.right_pads() {
-            return Judged::Decodes(n / 4 * 3 + n % 4 * 3 / 4);
-        }
-        Judged::Fails
+        ((self.alphabets != 0) & self.right_pads()).then_some(n / 4 * 3 + n % 4 * 3 / 4)
     }
 }
 
-// The end of the block that begins at `at`, or of the run.
-fn block_end(run: &[u8], at: usize) -> usize
-    requires { at ≤ length run.now }
-    ensures { (at ≤ result) × (result ≤ length run.now) × (at < length run.now → at < result) }
-{
-    if BLOCK <= run.len() - at {
-        return at + BLOCK;
-    }
-    run.len()
-}
-
-// Judges a run: rows of characters at once, and one by one what stands near line breaks and pad characters. It ends early where no alphabet is left.
-pub fn judge(run: &[u8]) -> Judged
+// To how many bytes a run decodes, if it does: rows of characters at once, and one by one what stands near line breaks and pad characters. It ends early
+// where no alphabet is left.
+pub fn judge(run: &[u8]) -> Option<usize>
     ensures { result ≡ judge_of run.now }
 {
     let mut seen = Seen::none();
     let mut i = 0;
     while i < run.len() {
-        let passed = seen.rows(run, i);
-        let before = passed.seen;
-        let at = passed.end;
-        let end = block_end(run, at);
+        let Passed {
+            seen: before,
+            end: at,
+        } = seen.rows(run, i);
+        let end = at + BLOCK.min(run.len() - at);
         seen = before.all(&run[at..end]);
         if seen.alphabets == 0 {
-            return Judged::Fails;
+            return None;
         }
         i = end;
     }

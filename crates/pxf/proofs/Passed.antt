@@ -1,5 +1,6 @@
 -- For `pxf_write_token_file`, `pxf_read_token_file` and `pxf_suggest_durations`: what a call's contract says of its enum holds of the documents' numbers. By
 -- the equation of the answer. Assumes nothing.
+use Rattle.std.specs.Prelude.{Result}
 use mathlib.Core.Path.{◌≡◌}
 use mathlib.Core.List.{List}
 use Prim.Native.Nat.{ℕ}
@@ -8,7 +9,7 @@ use Rattle.token_file.specs.Calls.{WritesFile, ReadsFile, written_number, writte
 use Rattle.token_file.specs.declared.write.Written.{Written}
 use Rattle.token_file.specs.declared.read.Loaded.{Loaded}
 use Rattle.suggest.specs.Calls.{suggested_number, suggested_value, SuggestsDurations}
-use Rattle.suggest.specs.declared.call.Suggested.{Suggested}
+use Rattle.suggest.specs.declared.call.Refusal.{Refusal}
 use Rattle.pxf.specs.Answers.{one_value}
 use Rattle.pxf.specs.Suggestions.{SuggestionsGiven}
 use Rattle.pxf.specs.TokenFiles.{FileWritten, FileRead}
@@ -25,7 +26,7 @@ file_read w en ev ea =
     let e = w.answer in
     record { number = rw e at en; answer = rw (ev, e) at ea; buffer = rw e at w.buffer }
 
-pub suggestions_given : {run : List ℕ} {list list' : List ℤ} {r : Suggested} → SuggestsDurations run list r list' → {n v : ℕ} {a : List ℤ}
+pub suggestions_given : {run : List ℕ} {list list' : List ℤ} {r : Result ℕ Refusal} → SuggestsDurations run list r list' → {n v : ℕ} {a : List ℤ}
     → n ≡ suggested_number r → v ≡ suggested_value r → a ≡ one_value v → SuggestionsGiven run list n list' a
 suggestions_given w en ev ea =
     let e = w.answer in

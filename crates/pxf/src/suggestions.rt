@@ -2,6 +2,7 @@
 ghost use Rattle.pxf.specs.Suggestions.{SuggestionsGiven};
 
 use crate::answer;
+use base::answer::{number, value};
 
 // Lists the suggestions for a run: `answer` gets the count of entries.
 #[unsafe(no_mangle)]
@@ -9,6 +10,6 @@ pub extern "C" fn pxf_suggest_durations(run: &[u8], list: &mut [i64], answer: &m
     ensures { SuggestionsGiven run.now list.old result list.new answer.new }
 {
     let r = suggest::call::suggest_durations(run, list);
-    answer::set_one(answer, r.value());
-    r.number()
+    answer::set_one(answer, value(r));
+    number(r)
 }

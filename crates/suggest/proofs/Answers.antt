@@ -1,5 +1,6 @@
 -- For `suggest_durations`: each answer with what it leaves in the list. By the checks in their order. For the calls of crate `pxf`: the value of an answer is
 -- small. By the bound on how many candidates a run has. Assumes nothing.
+use Rattle.std.specs.Prelude.{Result, Ok, Err}
 use mathlib.Core.Path.{◌≡◌, refl}
 use mathlib.Core.Bool.{true, false, not, ◌&&◌}
 use mathlib.Core.List.{List}
@@ -17,13 +18,13 @@ use Rattle.suggestion_list.proofs.Rows.{rows_length}
 use Rattle.suggest.specs.Suggestions.{suggestions_of}
 use Rattle.suggest.specs.Calls.{suggested_value, longest_run, good_run, suggest_answer, SuggestsDurations}
 use Rattle.suggest.specs.Helpers.{AllTried}
-use Rattle.suggest.specs.declared.call.Suggested.{Suggested}
-use Rattle.suggest.specs.declared.call.Suggested.TheVariants.{Entries, BadRun, ListShort}
+use Rattle.suggest.specs.declared.call.Refusal.{Refusal}
+use Rattle.suggest.specs.declared.call.Refusal.TheVariants.{BadRun, ListShort}
 use Rattle.suggest.proofs.TriedBytes.{suggestions_few}
 use Rattle.suggest.proofs.Claims.{suggests}
 
 -- an answer whose value fits a signed 64-bit number
-abbrev Small : Suggested → Type 0
+abbrev Small : Result ℕ Refusal → Type 0
 Small r = suggested_value r < 0x8000000000000000
 
 module _ (run : List ℕ) where
@@ -44,12 +45,12 @@ module _ (run : List ℕ) where
       (λ _. omega arith)
 
   module _ (list : List ℤ) where
-    pub bad_run : good_run run ≡ false → SuggestsDurations run list BadRun list
+    pub bad_run : good_run run ≡ false → SuggestsDurations run list (Err BadRun) list
     unfolding suggest_answer
     bad_run e = record { answer = rw e; buffer = refl; claim = λ n q. zero_one (cc); suffices = λ h q. zero_one (cc) }
 
     module _ (g : good_run run ≡ true) where
-      pub list_short : length list < length (suggestions_of run) * entry_width → SuggestsDurations run list ListShort list
+      pub list_short : length list < length (suggestions_of run) * entry_width → SuggestsDurations run list (Err ListShort) list
       unfolding suggest_answer
       list_short h =
           let n = good_short g in
@@ -66,7 +67,7 @@ module _ (run : List ℕ) where
       listed e = rw e (take_at (entry_rows (suggestions_of run)) _ _ (rows_length (suggestions_of run)))
 
       pub entries : {list' : List ℤ} {count : ℕ} → length (suggestions_of run) * entry_width ≤ length list → AllTried run list list' count
-          → SuggestsDurations run list (Entries count) list'
+          → SuggestsDurations run list (Ok count) list'
       unfolding suggest_answer
       entries {list'} {count} h t =
           let n = good_short g in

@@ -1,5 +1,6 @@
 -- For `suggest_durations`: the suggestions for a run are all replacements that count and no others, in order, whatever the limit. By induction on the bytes and
 -- on the offsets, each candidate by what is seen. Assumes nothing.
+use Rattle.std.specs.Prelude.{Option, Some, None}
 use mathlib.Core.Path.{◌≡◌, refl, sym, ◌∙◌}
 use mathlib.Core.Bool.{false}
 use mathlib.Core.Logic.{⊎_elim}
@@ -19,8 +20,6 @@ use Rattle.suggestion_list.proofs.Orders.{put_all_member, put_all_has}
 use Rattle.suggest.specs.Counts.{Counts}
 use Rattle.suggest.specs.Suggestions.{seen_in, first_byte, byte_count, entry_by, candidate, at_offset, up_to, suggestions_of}
 use Rattle.suggest.specs.Claim.{Suggests, NoneCounts}
-use Rattle.suggest.specs.declared.seen.Seen.{Seen}
-use Rattle.suggest.specs.declared.seen.Seen.TheVariants.{Duration, Other}
 use Rattle.suggest.proofs.SeenTexts.{seen_same, sees_seen, seen_sees}
 use Rattle.suggest.proofs.TriedBytes.{ordered_up_to}
 
@@ -55,10 +54,10 @@ module _ (run : List ℕ) (short : length run ≤ max_message_size) where
       pick_case (λ (xs : List Suggestion). Memᴰ x xs → Counts limit run x.offset x.byte x.nanos) (eqb b (byte run i))
       (λ _ m. absurd (mathlib.Core.List.Memᴰ.not-nil m)) (λ n. go (seen_in max_bytes_literal_length (set run i b)) refl n)
     where
-      go : (s : Seen) → seen_in max_bytes_literal_length (set run i b) ≡ s → eqb b (byte run i) ≡ false → Memᴰ x (entry_by s i b)
+      go : (s : Option ℤ) → seen_in max_bytes_literal_length (set run i b) ≡ s → eqb b (byte run i) ≡ false → Memᴰ x (entry_by s i b)
           → Counts limit run x.offset x.byte x.nanos
-      go Other q n m = absurd (mathlib.Core.List.Memᴰ.not-nil m)
-      go (Duration z) q n m =
+      go None q n m = absurd (mathlib.Core.List.Memᴰ.not-nil m)
+      go (Some z) q n m =
           rw (mathlib.Core.List.Memᴰ.eq_of_singleton m)
           (record {
             replaces = record { inside = h; low = omega arith; high = omega arith; different = eqb-false b (byte run i) n };

@@ -1,5 +1,6 @@
 -- For Cuts: two texts in each of which a Duration is seen make one, and a text in which one is seen is cut into two such behind a letter and before a digit;
 -- and sums under a sign. By the parts. Assumes nothing.
+use Rattle.std.specs.Prelude.{Some, None}
 use mathlib.Core.Path.{◌≡◌, refl, ap, sym, subst, ◌∙◌}
 use mathlib.Core.Bool.{Bool, true, false}
 use mathlib.Core.List.{List, [], ◌∷◌, ◌++◌, append_assoc, append-nil, tail}
@@ -20,7 +21,6 @@ use Rattle.go_duration.specs.Fraction.{most}
 use Rattle.go_duration.specs.Parse.{sign_of}
 use Rattle.go_duration.specs.Written.{WrittenPart}
 use Rattle.suggest.specs.Helpers.{seen_sum}
-use Rattle.suggest.specs.declared.seen.Seen.TheVariants as seen
 use Rattle.suggest.proofs.PartCuts.{Pieces, pieces_append, lower_range, digit_front, EndsLower, ends_rest, blanks_end, apart}
 use Rattle.suggest.proofs.SeenForms.{signed, top, Form, front_digit}
 
@@ -107,7 +107,7 @@ pub sign_add : (neg : Bool) (a b : ℕ) → pick neg (sign_of neg a -ℤ pos b) 
 sign_add true a b = +ℤ_assoc (pos 0) (neg_ℤ (pos a)) (neg_ℤ (pos b)) ∙ ap (λ (z : ℤ). pos 0 +ℤ z) (sym (neg_ℤ-+ℤ (pos a) (pos b)))
 sign_add false a b = refl
 
-pub sum_seen : (neg : Bool) (n : ℕ) → seen_sum (sign_of neg n) ≡ pick (leb (top neg n) most) (seen.Duration (sign_of neg n)) seen.Other
+pub sum_seen : (neg : Bool) (n : ℕ) → seen_sum (sign_of neg n) ≡ pick (leb (top neg n) most) (Some (sign_of neg n)) None
 sum_seen neg n = rw (test neg n)
   where
     test : (x : Bool) (n : ℕ) → ltb (mag (sign_of x n)) most ≡ leb (top x n) most

@@ -1,5 +1,6 @@
 -- For Seams: what is seen in a text that is cut behind a letter and before a digit is what is seen in both parts as one. By the written parts of a
 -- Duration, none of which reaches over the seam. Assumes nothing.
+use Rattle.std.specs.Prelude.{Option, Some, None}
 use mathlib.Core.Path.{◌≡◌, refl, ap, sym, subst, ◌∙◌}
 use mathlib.Core.Bool.{Bool, true, false}
 use mathlib.Core.List.{List, [], ◌∷◌, ◌++◌, append_assoc, append-nil}
@@ -7,11 +8,10 @@ use Prim.Native.Nat.{ℕ, ◌+◌, ◌-◌, ◌≤◌, ◌<◌, zero-le, suc-le-
 use native.Mathlib.Nat.{add-zero, zero-add, add_assoc, not-suc-le-zero}
 use native.Mathlib.Omega.{arith}
 use borrow.Author.Tests.{eqb-true, eqb-false, eq-eqb, ne_eqb, le-leb, leb-false}
-use lib.Dec.{T, leb, eqb}
+use lib.Dec.{leb, eqb}
 use lib.IntN.{ℤ, pos}
 use lib.ListN.{length, length-append}
 use lib.Seq.{drop-append_seam, drop-append-add, get_or-append-add}
-use lib.Signed.{non_neg}
 use Rattle.base.specs.Bytes.{byte, each}
 use Rattle.base.specs.Classes.{is_digit, is_lower_alpha, is_space}
 use Rattle.base.specs.Runs.{reach}
@@ -23,8 +23,6 @@ use Rattle.go_duration.specs.Written.{WrittenPart, total_of}
 use Rattle.scan.specs.Number.{lex_number}
 use Rattle.lexer.specs.Token.{start_at}
 use Rattle.suggest.specs.Helpers.{seen_of, is_minus, seen_sum, join_seen}
-use Rattle.suggest.specs.declared.seen.Seen.{Seen}
-use Rattle.suggest.specs.declared.seen.Seen.TheVariants.{Duration, Other}
 use Rattle.suggest.proofs.PartCuts.{space_range, EndsLower, ends_rest, blanks_end, total_append}
 use Rattle.suggest.proofs.SeenForms.{seen_at, top, Form, form_seen}
 use Rattle.suggest.proofs.SeenRuns.{SeenAs, seen_form}
@@ -60,7 +58,7 @@ module _ (f s : List ℕ) (b : each is_space f ≡ true) (n : begins is_space s 
 
 -- ---- both as one
 
-other_duration : {z : ℤ} → Other ≡ Duration z → ⊥
+other_duration : {z : ℤ} → None ≡ Some z → ⊥
 other_duration e = zero_one cc
 
 -- no sign where a digit stands
@@ -71,14 +69,14 @@ digit_plus y d false f = (f, refl)
 module _ (x y : List ℕ) (h : 0 < length x) (l : EndsLower x) (d : is_digit (byte y 0) ≡ true) where
   -- both are Durations
   both_forms : {neg : Bool} {ps qs : List WrittenPart} → Form x neg ps → Form y false qs
-      → seen_at (x ++ y) ≡ join_seen (eqb (byte x 0) 45) (Duration (sign_of neg (total_of ps))) (Duration (pos (total_of qs)))
+      → seen_at (x ++ y) ≡ join_seen (eqb (byte x 0) 45) (Some (sign_of neg (total_of ps))) (Some (pos (total_of qs)))
   unfolding join_seen
   both_forms {neg} {ps} {qs} f g =
       rw (form_sign f)
       (form_seen (join x y l f g) ∙ sym (sum_seen neg (total_of (ps ++ qs)))
       ∙ ap seen_sum (ap (sign_of neg) (total_append ps qs) ∙ sym (sign_add neg (total_of ps) (total_of qs))))
 
-  both_seen : (a b : ℤ) → SeenAs x a → SeenAs y b → seen_at (x ++ y) ≡ join_seen (eqb (byte x 0) 45) (Duration a) (Duration b)
+  both_seen : (a b : ℤ) → SeenAs x a → SeenAs y b → seen_at (x ++ y) ≡ join_seen (eqb (byte x 0) 45) (Some a) (Some b)
   both_seen a b u v =
       let p = digit_plus y d v.neg v.form in
       let f = both_forms u.form p.0 in
@@ -88,24 +86,24 @@ module _ (x y : List ℕ) (h : 0 < length x) (l : EndsLower x) (d : is_digit (by
 
   -- the first is no zero under `-`, where the second is no Duration
   abbrev NoZero : Type 0
-  NoZero = eqb (byte x 0) 45 ≡ true → seen_at x ≡ Duration (pos 0) → seen_at y ≡ Other → ⊥
+  NoZero = eqb (byte x 0) 45 ≡ true → seen_at x ≡ Some (pos 0) → seen_at y ≡ None → ⊥
 
   -- the whole is one
   whole_forms : (neg : Bool) {ps qs : List WrittenPart} → Form x neg ps → Form y false qs → top neg (total_of ps + total_of qs) ≤ most → NoZero
-      → (seen_at x ≡ Other → ⊥) × (seen_at y ≡ Other → ⊥)
+      → (seen_at x ≡ None → ⊥) × (seen_at y ≡ None → ⊥)
   whole_forms true {ps} {qs} f g b z =
-      let e : seen_at x ≡ Duration (sign_of true (total_of ps)) = rw (le-leb (total_of ps) most (omega arith)) at (form_seen f) in (
+      let e : seen_at x ≡ Some (sign_of true (total_of ps)) = rw (le-leb (total_of ps) most (omega arith)) at (form_seen f) in (
         λ q. other_duration (sym q ∙ e),
         λ q. let c = (pick_second (leb (total_of qs + 1) most) (λ r. other_duration (sym r)) (sym (form_seen g) ∙ q)).0 in
             let k : total_of ps ≡ 0 = omega (arith, leb-false (total_of qs + 1) most c) in
             z (form_sign f) (rw k at e) q,
       )
   whole_forms false {ps} {qs} f g b z =
-      let e : seen_at x ≡ Duration (pos (total_of ps)) = rw (le-leb (total_of ps + 1) most (omega arith)) at (form_seen f) in
-      let k : seen_at y ≡ Duration (pos (total_of qs)) = rw (le-leb (total_of qs + 1) most (omega arith)) at (form_seen g) in
+      let e : seen_at x ≡ Some (pos (total_of ps)) = rw (le-leb (total_of ps + 1) most (omega arith)) at (form_seen f) in
+      let k : seen_at y ≡ Some (pos (total_of qs)) = rw (le-leb (total_of qs + 1) most (omega arith)) at (form_seen g) in
       (λ q. other_duration (sym q ∙ e), λ q. other_duration (sym q ∙ k))
 
-  whole_seen : (z : ℤ) → SeenAs (x ++ y) z → NoZero → (seen_at x ≡ Other → ⊥) × (seen_at y ≡ Other → ⊥)
+  whole_seen : (z : ℤ) → SeenAs (x ++ y) z → NoZero → (seen_at x ≡ None → ⊥) × (seen_at y ≡ None → ⊥)
   whole_seen z w n =
       let s = split y d x w.neg h l w.form in
       let e : total_of w.parts ≡ total_of s.front + total_of s.back = ap total_of s.whole ∙ total_append s.front s.back in
@@ -115,12 +113,12 @@ module _ (x y : List ℕ) (h : 0 < length x) (l : EndsLower x) (d : is_digit (by
   unfolding join_seen
   cut_at n = go (seen_at x) (seen_at y) (seen_at (x ++ y)) refl refl refl
     where
-      go : (u v w : Seen) → seen_at x ≡ u → seen_at y ≡ v → seen_at (x ++ y) ≡ w → seen_at (x ++ y) ≡ join_seen (eqb (byte x 0) 45) u v
-      go (Duration a) (Duration b) w p q r = both_seen a b (seen_form x a p) (seen_form y b q)
-      go (Duration a) Other Other p q r = r
-      go (Duration a) Other (Duration z) p q r = absurd ((whole_seen z (seen_form (x ++ y) z r) n).1 q)
-      go Other v Other p q r = r
-      go Other v (Duration z) p q r = absurd ((whole_seen z (seen_form (x ++ y) z r) n).0 p)
+      go : (u v w : Option ℤ) → seen_at x ≡ u → seen_at y ≡ v → seen_at (x ++ y) ≡ w → seen_at (x ++ y) ≡ join_seen (eqb (byte x 0) 45) u v
+      go (Some a) (Some b) w p q r = both_seen a b (seen_form x a p) (seen_form y b q)
+      go (Some a) None None p q r = r
+      go (Some a) None (Some z) p q r = absurd ((whole_seen z (seen_form (x ++ y) z r) n).1 q)
+      go None v None p q r = r
+      go None v (Some z) p q r = absurd ((whole_seen z (seen_form (x ++ y) z r) n).0 p)
 
 -- ---- with blanks in front
 
@@ -147,18 +145,11 @@ digit_begins (c ∷ y) d = by_cases (is_space c) (λ q. absurd (omega (arith, di
 digit_seen : (y : List ℕ) → is_digit (byte y 0) ≡ true → seen_of y ≡ seen_at y
 digit_seen y d = seen_behind [] y refl (digit_begins y d)
 
--- and is no negative one
-pub digit_nonneg : (y : List ℕ) (z : ℤ) → is_digit (byte y 0) ≡ true → seen_of y ≡ Duration z → T (non_neg z)
-digit_nonneg y z d e =
-    let v = seen_form y z (sym (digit_seen y d) ∙ e) in
-    let k : z ≡ pos (total_of v.parts) = v.value ∙ ap (λ (g : Bool). sign_of g (total_of v.parts)) (digit_plus y d v.neg v.form).1 in
-    subst (λ (i : ℤ). T (non_neg i)) (sym k) tt
-
 module _ (f s y : List ℕ) (b : each is_space f ≡ true) (n : begins is_space s ≡ false) (h : 0 < length s) (d : is_digit (byte y 0) ≡ true) where
   minus_front : is_minus ((f ++ s) ++ y) ≡ is_minus (f ++ s)
   minus_front = rw (append_assoc, minus_behind f (s ++ y) b (begins_more s y h n), minus_behind f s b n, first_more s y h)
 
-  seen_front : EndsLower s → (is_minus (f ++ s) ≡ true → seen_of (f ++ s) ≡ Duration (pos 0) → seen_of y ≡ Other → ⊥)
+  seen_front : EndsLower s → (is_minus (f ++ s) ≡ true → seen_of (f ++ s) ≡ Some (pos 0) → seen_of y ≡ None → ⊥)
       → seen_of ((f ++ s) ++ y) ≡ join_seen (is_minus (f ++ s)) (seen_of (f ++ s)) (seen_of y)
   seen_front l z =
       rw (append_assoc, seen_behind f (s ++ y) b (begins_more s y h n), seen_behind f s b n, minus_behind f s b n, digit_seen y d)
@@ -180,10 +171,10 @@ module _ (x y : List ℕ) (h : 0 < length x) (l : is_lower_alpha (byte x (length
   cut_minus = subst (λ (z : List ℕ). is_minus (z ++ y) ≡ is_minus z) (sym k.bytes) (minus_front k.front k.back y k.passes k.stops some d)
 
   -- but for a zero under `-`: `-0s` and `9223372036854775808ns`, of which the second is above the greatest number by itself and not under `-`
-  pub cut_seen : (is_minus x ≡ true → seen_of x ≡ Duration (pos 0) → seen_of y ≡ Other → ⊥) → seen_of (x ++ y) ≡ join_seen (is_minus x) (seen_of x) (seen_of y)
+  pub cut_seen : (is_minus x ≡ true → seen_of x ≡ Some (pos 0) → seen_of y ≡ None → ⊥) → seen_of (x ++ y) ≡ join_seen (is_minus x) (seen_of x) (seen_of y)
   cut_seen =
       subst
       (λ (z : List ℕ).
-      (is_minus z ≡ true → seen_of z ≡ Duration (pos 0) → seen_of y ≡ Other → ⊥) → seen_of (z ++ y) ≡ join_seen (is_minus z) (seen_of z) (seen_of y))
+      (is_minus z ≡ true → seen_of z ≡ Some (pos 0) → seen_of y ≡ None → ⊥) → seen_of (z ++ y) ≡ join_seen (is_minus z) (seen_of z) (seen_of y))
       (sym k.bytes)
       (seen_front k.front k.back y k.passes k.stops some d (ends_rest k.front k.back ends))

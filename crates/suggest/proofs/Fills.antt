@@ -1,17 +1,25 @@
 -- For the loops over candidates: the list while it is filled, one candidate after the other. By the laws of entries in order. Assumes nothing.
-use mathlib.Core.Path.{refl}
+use mathlib.Core.Path.{refl, ◌∙◌}
 use mathlib.Core.List.{List, [], ◌∷◌, ◌++◌}
 use Prim.Native.Nat.{ℕ, ◌+◌}
 use native.Mathlib.Omega.{arith}
 use lib.IntN.{ℤ}
 use Rattle.suggestion_list.specs.Order.{put_all}
 use Rattle.suggestion_list.specs.Rows.{entry_rows}
-use Rattle.suggestion_list.specs.Helpers.{Added}
+use Rattle.suggestion_list.specs.Helpers.{Added, SameList}
 use Rattle.suggestion_list.specs.declared.Suggestion.{Suggestion}
+use Rattle.suggestion_list.specs.declared.Suggestions.{Suggestions}
 use Rattle.suggestion_list.proofs.Orders.{put_length, put_all_append}
 use Rattle.suggest.specs.Suggestions.{first_byte}
 use Rattle.suggest.specs.Helpers.{Filled, Adds}
 use Rattle.suggest.proofs.TriedBytes.{ordered_none, ordered_byte, ordered_offset, ordered_put}
+
+-- the list is lent to one call after the other
+pub same_self : (x : Suggestions) → SameList x x
+same_self x = record { lent = refl; size = refl }
+
+pub same_then : {x y z : Suggestions} → SameList x y → SameList y z → SameList x z
+same_then a b = record { lent = b.lent ∙ a.lent; size = b.size ∙ a.size }
 
 -- nothing is stored yet
 pub filled_none : (list : List ℤ) → Filled list 0 first_byte [] list 0

@@ -1,5 +1,6 @@
 -- For `see` and `SeenTexts`: what is seen by the first number of a text is what the whole reading hands over, whatever the limit. By cases on the first two
 -- tokens, from what is known of each token. Assumes nothing.
+use Rattle.std.specs.Prelude.{Option, Some, None}
 use mathlib.Core.Path.{◌≡◌, refl, sym, ap, ◌∙◌}
 use mathlib.Core.Bool.{Bool, true, false, ◌||◌, or-true}
 use mathlib.Core.Logic.{◌⊎◌, inl, inr, ⊎_elim}
@@ -8,6 +9,7 @@ use Prim.Native.Nat.{ℕ, ◌+◌, ◌-◌, ◌≤◌, ◌<◌, zero-le}
 use Prim.Native.Char.{code}
 use native.Mathlib.Omega.{arith}
 use lib.Dec.{eqb}
+use lib.IntN.{ℤ}
 use lib.ListN.{length, take, drop}
 use lib.Seq.{drop-length, get_or-take, get_or-drop}
 use native.Mathlib.Nat.{add-zero}
@@ -39,8 +41,6 @@ use Rattle.reading.proofs.NextToken.{reads, end_offset}
 use Rattle.reading.proofs.From.{from_eof, from_more, from_head}
 use Rattle.suggest.specs.Suggestions.{only_duration}
 use Rattle.suggest.specs.Helpers.{starts_number, seen_by, seen_of}
-use Rattle.suggest.specs.declared.seen.Seen.{Seen}
-use Rattle.suggest.specs.declared.seen.Seen.TheVariants as seen
 
 -- ---- a token that begins as a number does
 
@@ -177,7 +177,7 @@ module _ (limit : ℕ) (text : List ℕ) (at : ℕ) (h : at ≤ length text) whe
 
 module _ (limit : ℕ) (text : List ℕ) where
   -- what the reading hands over, with no word of its checks
-  abbrev pub handed : Seen
+  abbrev pub handed : Option ℤ
   handed = only_duration (whole_laid Strict limit text).records
 
   -- where the first token ends
@@ -185,11 +185,11 @@ module _ (limit : ℕ) (text : List ℕ) where
   end = (next_token Strict limit text 0).end.offset
 
   -- where the first token is no Duration
-  pub not_duration : (kind_number (next_token Strict limit text 0).kind ≡ duration_number → ⊥) → handed ≡ seen.Other
+  pub not_duration : (kind_number (next_token Strict limit text 0).kind ≡ duration_number → ⊥) → handed ≡ None
   unfolding tokens records_of
   not_duration n = let t = from_head Strict limit text 0 zero-le in rw t.1 (go t.0)
     where
-      go : (ts : List Token) → only_duration (records_of 0 (next_token Strict limit text 0 ∷ ts)) ≡ seen.Other
+      go : (ts : List Token) → only_duration (records_of 0 (next_token Strict limit text 0 ∷ ts)) ≡ None
       go [] = refl
       go (u ∷ []) = rw (ne_eqb _ _ n)
       go (u ∷ v ∷ ts) = refl
@@ -202,14 +202,14 @@ module _ (limit : ℕ) (text : List ℕ) where
     two = from_more Strict limit text 0 zero-le (λ z. omega arith)
 
     -- where it is one, and nothing but blanks is left
-    pub alone : start_at text end ≡ length text → handed ≡ seen.Duration (next_token Strict limit text 0).nanos
+    pub alone : start_at text end ≡ length text → handed ≡ Some (next_token Strict limit text 0).nanos
     unfolding tokens records_of
     alone e =
         let z = at_end limit text end inside e in
         rw (two, from_eof Strict limit text end inside z, eq-eqb _ _ k, eq-eqb _ _ z)
 
     -- and where something is
-    pub followed : (start_at text end ≡ length text → ⊥) → handed ≡ seen.Other
+    pub followed : (start_at text end ≡ length text → ⊥) → handed ≡ None
     unfolding tokens records_of
     followed n =
         let z = not_end limit text end inside n in

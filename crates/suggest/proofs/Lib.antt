@@ -11,7 +11,6 @@ mod SeenRuns
 mod CutForms
 mod Cuts
 mod Seams
-mod Joins
 mod TriedBytes
 mod Fills
 mod Turns

@@ -1,25 +1,24 @@
 -- For `surroundings`, `see_front`, `see_around` and `try_offset`: a text that is cut at an offset is its two parts, and what is known of the surroundings
 -- of a byte holds whatever byte stands there. By the laws of `Cuts`. Assumes nothing.
-use mathlib.Core.Path.{◌≡◌, refl, sym, ◌∙◌}
+use Rattle.std.specs.Prelude.{Option, Some}
+use mathlib.Core.Path.{◌≡◌, sym, ◌∙◌}
 use mathlib.Core.Bool.{true}
 use mathlib.Core.List.{List}
 use Prim.Native.Nat.{ℕ, ◌-◌, ◌≤◌, ◌<◌}
 use native.Mathlib.Nat.{add-zero}
 use native.Mathlib.Omega.{arith}
 use lib.Dec.{ltb}
-use lib.IntN.{pos}
+use lib.IntN.{ℤ, pos}
 use lib.ListN.{length, set, take, drop, take-append-drop, length-set}
 use lib.Seq.{length-take-le, get_or-take, get_or-drop, get_or-set_other, take-set-le, drop-set-lt, take-take}
 use Rattle.base.specs.Bytes.{byte}
 use Rattle.base.specs.Classes.{is_digit, is_lower_alpha}
 use Rattle.base.proofs.Tests.{by_cases, in_text, no_digit}
 use borrow.Author.Tests.{ltb-true, ltb-false}
-use Rattle.suggest.specs.Helpers.{seen_of, is_minus, join_seen, NoSign, Seam}
+use Rattle.suggest.specs.Helpers.{seen_of, is_minus, join_seen, Seam}
 use Rattle.suggest.specs.Helpers.{CutBefore, CutAfter, Front, Cut, Surrounds}
 use Rattle.suggest.specs.declared.pieces.Around.{Around}
-use Rattle.suggest.specs.declared.seen.Seen.{Seen}
-use Rattle.suggest.specs.declared.seen.Seen.TheVariants.{Duration, Other}
-use Rattle.suggest.proofs.Cuts.{cut_seen, cut_minus, digit_nonneg}
+use Rattle.suggest.proofs.Cuts.{cut_seen, cut_minus}
 
 module _ {text : List ℕ} {p : ℕ} (s : Seam text p) where
   seam_in : p < length text
@@ -38,20 +37,12 @@ module _ {text : List ℕ} {p : ℕ} (s : Seam text p) where
   digit = rw (get_or-drop p text 0 0, add-zero) s.digit
 
   -- the text is seen by its two parts, but for a zero under `-`
-  pub seam_seen : (is_minus text ≡ true → seen_of (take p text) ≡ Duration (pos 0) → ⊥)
+  pub seam_seen : (is_minus text ≡ true → seen_of (take p text) ≡ Some (pos 0) → ⊥)
       → join_seen (is_minus text) (seen_of (take p text)) (seen_of (drop p text)) ≡ seen_of text
   seam_seen z =
       let m = cut_minus (take p text) (drop p text) some letter digit in
       let c = cut_seen (take p text) (drop p text) some letter digit (λ n e o. z (rw (take-append-drop p text) at (m ∙ n)) e) in
       sym (rw (take-append-drop p text) at (rw (← m) at c))
-
-  -- the second part has no sign
-  pub seam_no_sign : NoSign (seen_of (drop p text))
-  seam_no_sign = go (seen_of (drop p text)) refl
-    where
-      go : (v : Seen) → seen_of (drop p text) ≡ v → NoSign v
-      go (Duration z) e = digit_nonneg (drop p text) z digit e
-      go Other e = tt
 
 -- ---- the surroundings of a byte
 
@@ -109,7 +100,7 @@ cut_set {run} {i} {a} b w =
     }
 
 -- what is seen before and behind the cuts round a byte
-pub surrounds : {run : List ℕ} {i start end : ℕ} {head tail : Seen} → CutBefore run i start → CutAfter run i end → head ≡ seen_of (take start run)
+pub surrounds : {run : List ℕ} {i start end : ℕ} {head tail : Option ℤ} → CutBefore run i start → CutAfter run i end → head ≡ seen_of (take start run)
     → tail ≡ seen_of (drop end run) → Surrounds run i (record { start = start; end = end; head = head; tail = tail })
 surrounds {i = i} {start = start} f l p q =
     let b : start ≤ i = by_cases (ltb 0 start) (λ t. omega (arith, (f (ltb-true 0 start t)).0)) (λ t. omega (arith, ltb-false 0 start t)) in

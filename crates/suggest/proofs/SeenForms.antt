@@ -1,5 +1,6 @@
 -- For Cuts and SeenRuns: in a sign or none, parts that the lexer takes, and blanks, a Duration is seen exactly where the total fits under the sign. By the
 -- front of the parts. Assumes nothing.
+use Rattle.std.specs.Prelude.{Option, Some, None}
 use mathlib.Core.Path.{◌≡◌, refl, ap, ◌∙◌}
 use mathlib.Core.Bool.{Bool, true, false}
 use mathlib.Core.List.{List, [], ◌∷◌, ◌++◌, append_assoc}
@@ -7,6 +8,7 @@ use Prim.Native.Nat.{ℕ, ◌+◌, ◌<◌, zero-le, suc-le-suc}
 use native.Mathlib.Omega.{arith}
 use borrow.Author.Tests.{eq-eqb, leb-true, leb-false}
 use lib.Dec.{leb, eqb}
+use lib.IntN.{ℤ}
 use lib.ListN.{length, drop, length-append}
 use lib.Seq.{take-append_seam, drop-append_seam}
 use Rattle.base.specs.Choice.{pick}
@@ -25,15 +27,13 @@ use Rattle.scan.specs.Run.{unit_piece}
 use Rattle.scan.specs.Number.{duration_by, lex_number}
 use Rattle.lexer.specs.Token.{start_at, in_blanks}
 use Rattle.suggest.specs.Helpers.{starts_number, seen_by}
-use Rattle.suggest.specs.declared.seen.Seen.{Seen}
-use Rattle.suggest.specs.declared.seen.Seen.TheVariants as seen
 use Rattle.suggest.proofs.PartCuts.{Pieces, no_piece, piece, pieces_parts}
 use Rattle.suggest.proofs.PieceWalks.{walk_pieces, walk_blanks}
 use Rattle.suggest.proofs.PieceFronts.{lexed_digits, number_digits}
 
 -- what is seen in a text that begins with no blank
-abbrev pub seen_at : List ℕ → Seen
-seen_at s = pick (starts_number (byte s 0)) (seen_by (lex_number s) (eqb (start_at s (lex_number s).len) (length s))) seen.Other
+abbrev pub seen_at : List ℕ → Option ℤ
+seen_at s = pick (starts_number (byte s 0)) (seen_by (lex_number s) (eqb (start_at s (lex_number s).len) (length s))) None
 
 -- bytes under a sign
 abbrev pub signed : Bool → List ℕ → List ℕ
@@ -110,8 +110,8 @@ module _ (neg : Bool) (b : List ℕ) (e : each is_space b ≡ true) where
   seen_by_lem t q d parsed.Bad h =
       rw (starts t d, number_is q d, h, to_end (signed neg t), eq-eqb (length (signed neg t ++ b)) (length (signed neg t ++ b)) refl)
 
-  abbrev fitting : ℕ → Seen
-  fitting n = pick (leb (top neg n) most) (seen.Duration (sign_of neg n)) seen.Other
+  abbrev fitting : ℕ → Option ℤ
+  fitting n = pick (leb (top neg n) most) (Some (sign_of neg n)) None
 
   seen_total : {ps : List WrittenPart} (t : List ℕ) → Pieces ps t → is_digit (byte t 0) ≡ true → seen_at (signed neg t ++ b) ≡ fitting (total_of ps)
   unfolding seen_by kind_number
@@ -127,5 +127,5 @@ module _ (neg : Bool) (b : List ℕ) (e : each is_space b ≡ true) where
       some (piece i l q) d = suc-le-suc zero-le
 
 pub form_seen : {s : List ℕ} {neg : Bool} {ps : List WrittenPart} → Form s neg ps
-    → seen_at s ≡ pick (leb (top neg (total_of ps)) most) (seen.Duration (sign_of neg (total_of ps))) seen.Other
+    → seen_at s ≡ pick (leb (top neg (total_of ps)) most) (Some (sign_of neg (total_of ps))) None
 form_seen {neg = neg} f = ap seen_at f.text ∙ seen_total neg f.blanks f.blank f.bytes f.pieces f.digit

@@ -1,5 +1,6 @@
 -- For Cuts: a text that begins with no blank and in which a Duration is seen is a sign or none, parts that the lexer takes, and blanks, and the total fits
 -- under the sign. By what is known of a Duration's run. Assumes nothing.
+use Rattle.std.specs.Prelude.{Some, None}
 use mathlib.Core.Path.{◌≡◌, refl, ap, sym, subst, ◌∙◌}
 use mathlib.Core.Bool.{Bool, true, false, ◌&&◌, ◌||◌}
 use mathlib.Core.List.{List, [], ◌∷◌, ◌++◌, append_assoc}
@@ -30,7 +31,6 @@ use Rattle.scan.proofs.Scanned.{DurationRun, Scanned}
 use Rattle.scan.proofs.Numbers.{number_on_line}
 use Rattle.lexer.specs.Token.{start_at, in_blanks}
 use Rattle.suggest.specs.Helpers.{starts_number, seen_by}
-use Rattle.suggest.specs.declared.seen.Seen.TheVariants as seen
 use Rattle.suggest.proofs.PartCuts.{digit_front}
 use Rattle.suggest.proofs.PieceRuns.{Fit, Begun, number_fits}
 use Rattle.suggest.proofs.PieceParts.{fit_rest, pieces_of}
@@ -53,7 +53,7 @@ blanks_run (b ∷ s) e =
     by_cases (is_space b) (λ q. rw q (blanks_run s (let h : suc (run in_blanks s) ≡ suc (length s) = rw q at e in omega arith)))
     (λ q. let h : 0 ≡ suc (length s) = rw q at e in absurd (omega arith))
 
-other_duration : {z : ℤ} → seen.Other ≡ seen.Duration z → ⊥
+other_duration : {z : ℤ} → None ≡ Some z → ⊥
 other_duration e = zero_one cc
 
 -- parts begin no timestamp
@@ -94,7 +94,7 @@ swap a true false e = refl
 swap true false false e = refl
 swap false false false e = e
 
-module _ (s : List ℕ) (z : ℤ) (e : seen_at s ≡ seen.Duration z) where
+module _ (s : List ℕ) (z : ℤ) (e : seen_at s ≡ Some z) where
   abbrev token : Lexeme
   token = lex_number s
 
@@ -105,7 +105,7 @@ module _ (s : List ℕ) (z : ℤ) (e : seen_at s ≡ seen.Duration z) where
   abbrev to_the_end : Bool
   to_the_end = eqb (start_at s token.len) (length s)
 
-  tested : (to_the_end && is_duration token.kind ≡ true) × (seen.Duration token.nanos ≡ seen.Duration z)
+  tested : (to_the_end && is_duration token.kind ≡ true) × (Some token.nanos ≡ Some z)
   unfolding seen_by
   tested = pick_first (to_the_end && is_duration token.kind) other_duration (pick_first (starts_number (byte s 0)) other_duration e).1
 

@@ -1,5 +1,6 @@
 -- For all laws of candidates: what is seen by the first number of a text is what the strict reader sees, whatever the limit, as a test and as the claim has it;
 -- and each printable byte of a text in which one Duration is seen can stand there. By the tiles of the text: blanks, the Duration, blanks. Assumes nothing.
+use Rattle.std.specs.Prelude.{Option, Some, None}
 use mathlib.Core.Path.{◌≡◌, refl, sym, ◌∙◌}
 use mathlib.Core.Bool.{Bool, true, not, ◌&&◌, ◌||◌}
 use mathlib.Core.List.{List, [], ◌∷◌, ◌++◌}
@@ -30,8 +31,6 @@ use Rattle.reading.proofs.NextToken.{reads}
 use Rattle.suggest.specs.Counts.{Sees}
 use Rattle.suggest.specs.Suggestions.{only_duration, seen_in}
 use Rattle.suggest.specs.Helpers.{can_stand, seen_of}
-use Rattle.suggest.specs.declared.seen.Seen.{Seen}
-use Rattle.suggest.specs.declared.seen.Seen.TheVariants.{Duration, Other}
 use Rattle.suggest.proofs.WrittenBytes.{Clean, stands, clean_none, clean_append, clean_duration}
 use Rattle.suggest.proofs.FirstTokens.{handed, not_duration, end, followed, seen_handed}
 
@@ -79,7 +78,7 @@ module _ (limit : ℕ) (text : List ℕ) where
         clean_append front (clean_append (clean_duration (r.duration k).form) (rw m back)) in
         rw (take-append-drop (b - a) (drop a text), take-append-drop a text) at whole
 
-  handed_clean : (z : ℤ) → handed limit text ≡ Duration z → Clean text
+  handed_clean : (z : ℤ) → handed limit text ≡ Some z → Clean text
   handed_clean z q =
       by_cases (eqb (kind_number (next_token Strict limit text 0).kind) duration_number)
       (λ k.
@@ -98,19 +97,19 @@ module _ (limit : ℕ) (text : List ℕ) where
     unfolding seen_in
     seen_in_lem = go (handed limit text) refl
       where
-        other : (j : Judged) → after_judge j (λ r. Other) Other ≡ Other
+        other : (j : Judged) → after_judge {A = Option ℤ} j (λ r. None) None ≡ None
         other Fit = refl
         other (Unfit r) = refl
 
-        go : (s : Seen) → handed limit text ≡ s → after_judge (judge_of text) (λ r. Other) (handed limit text) ≡ handed limit text
-        go Other q = rw q (other (judge_of text))
-        go (Duration z) q = rw (fit (handed_clean z q))
+        go : (s : Option ℤ) → handed limit text ≡ s → after_judge (judge_of text) (λ r. None) (handed limit text) ≡ handed limit text
+        go None q = rw q (other (judge_of text))
+        go (Some z) q = rw (fit (handed_clean z q))
 
     pub seen_same : seen_of text ≡ seen_in limit text
     seen_same = seen_handed limit text ∙ sym seen_in_lem
 
     -- a printable byte of such a text can stand there
-    pub seen_stand : (z : ℤ) → seen_in limit text ≡ Duration z → (k : ℕ) → k < length text → 0x20 ≤ byte text k → byte text k ≤ 0x7E
+    pub seen_stand : (z : ℤ) → seen_in limit text ≡ Some z → (k : ℕ) → k < length text → 0x20 ≤ byte text k → byte text k ≤ 0x7E
         → can_stand (byte text k) ≡ true
     seen_stand z q k h l u =
         let w = each_at stands text (handed_clean z (sym seen_in_lem ∙ q)).bytes k h in
@@ -118,16 +117,16 @@ module _ (limit : ℕ) (text : List ℕ) where
         (λ n. true_false _ (in_range 0x20 0x7E (byte text k) l u) (not-true _ n))
 
   -- the test is the claim
-  pub sees_seen : {z : ℤ} → Sees limit text z → seen_in limit text ≡ Duration z
+  pub sees_seen : {z : ℤ} → Sees limit text z → seen_in limit text ≡ Some z
   unfolding seen_in
   sees_seen s = let t = s.tokens in rw (s.accepted, t.all, eq-eqb _ _ t.duration, eq-eqb _ _ t.eof, t.nanos)
 
-  pub seen_sees : (z : ℤ) → seen_in limit text ≡ Duration z → Sees limit text z
+  pub seen_sees : (z : ℤ) → seen_in limit text ≡ Some z → Sees limit text z
   unfolding seen_in
   seen_sees z = go (judge_of text) refl (whole_laid Strict limit text).records refl
     where
       go : (j : Judged) → judge_of text ≡ j → (rs : List Record) → (whole_laid Strict limit text).records ≡ rs
-          → after_judge j (λ r. Other) (only_duration rs) ≡ Duration z → Sees limit text z
+          → after_judge j (λ r. None) (only_duration rs) ≡ Some z → Sees limit text z
       go (Unfit r) p rs q e = zero_one (cc)
       go Fit p [] q e = zero_one (cc)
       go Fit p (d ∷ []) q e = zero_one (cc)

@@ -1,5 +1,6 @@
 -- For the loops over candidates and `Claims`: what one candidate gives, and that the candidates tried so far are in order, before the next. A byte that cannot
 -- stand gives nothing. By cases on what is seen, and by induction on the bytes and on the offsets. Assumes nothing.
+use Rattle.std.specs.Prelude.{Option, Some, None}
 use mathlib.Core.Path.{◌≡◌, refl, ap}
 use mathlib.Core.Bool.{true, false, not, ◌&&◌}
 use mathlib.Core.Logic.{inl, inr, ⊎_elim}
@@ -21,8 +22,6 @@ use Rattle.suggestion_list.specs.declared.Suggestion.{Suggestion}
 use Rattle.suggestion_list.proofs.Orders.{put_member, put_rising, put_all_append, put_all_length}
 use Rattle.suggest.specs.Suggestions.{seen_in, first_byte, byte_count, entry_by, candidate, at_offset, up_to, suggestions_of}
 use Rattle.suggest.specs.Helpers.{can_stand, Ordered}
-use Rattle.suggest.specs.declared.seen.Seen.{Seen}
-use Rattle.suggest.specs.declared.seen.Seen.TheVariants.{Duration, Other}
 use Rattle.suggest.proofs.SeenTexts.{seen_stand}
 
 -- ---- one candidate
@@ -35,9 +34,9 @@ module _ (run : List ℕ) (i b : ℕ) where
 
   -- one that is not tried gives nothing: it is the run's own, or it cannot stand
   module _ (h : i < length run) (l : length run ≤ max_message_size) (lo : first_byte ≤ b) (hi : b < first_byte + byte_count) where
-    seen_none : (s : Seen) → seen_in max_bytes_literal_length (set run i b) ≡ s → can_stand b ≡ false → entry_by s i b ≡ []
-    seen_none Other q n = refl
-    seen_none (Duration z) q n =
+    seen_none : (s : Option ℤ) → seen_in max_bytes_literal_length (set run i b) ≡ s → can_stand b ≡ false → entry_by s i b ≡ []
+    seen_none None q n = refl
+    seen_none (Some z) q n =
         let e : byte (set run i b) i ≡ b = get_or-set_same run i b 0 h in
         let c = seen_stand max_bytes_literal_length (set run i b) (rw length-set l) z q i (rw length-set h) (rw e (omega arith)) (rw e (omega arith)) in
         true_false (can_stand b) (rw e at c) n
@@ -71,10 +70,10 @@ module _ {i b : ℕ} {es : List Suggestion} (o : Ordered i b es) where
         tried = λ y m. ⊎_elim (λ q. inr (ap (λ (v : Suggestion). v.offset) q, rw q (omega arith))) (λ p. ordered_byte.tried y p) (put_member x y es m);
       }
 
-  ordered_seen : (s : Seen) → Ordered i (b + 1) (put_all es (entry_by s i b))
+  ordered_seen : (s : Option ℤ) → Ordered i (b + 1) (put_all es (entry_by s i b))
   unfolding put_all
-  ordered_seen (Duration z) = ordered_put z
-  ordered_seen Other = ordered_byte
+  ordered_seen (Some z) = ordered_put z
+  ordered_seen None = ordered_byte
 
   ordered_candidate : (run : List ℕ) → Ordered i (b + 1) (put_all es (candidate run i b))
   unfolding candidate put_all
@@ -104,9 +103,9 @@ unfolding candidate
 candidate_few run i b = pick_case (λ (xs : List Suggestion). length xs ≤ 1) (eqb b (byte run i)) (λ _. zero-le)
     (λ _. go (seen_in max_bytes_literal_length (set run i b)))
   where
-    go : (s : Seen) → length (entry_by s i b) ≤ 1
-    go (Duration z) = omega arith
-    go Other = zero-le
+    go : (s : Option ℤ) → length (entry_by s i b) ≤ 1
+    go (Some z) = omega arith
+    go None = zero-le
 
 bytes_few : (run : List ℕ) (i n : ℕ) → length (at_offset run i n) ≤ n
 unfolding at_offset

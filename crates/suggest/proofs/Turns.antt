@@ -1,6 +1,6 @@
 -- For `try_offset` and `try_offsets`: the turns of their loops, over the bytes at one offset and over the offsets. By the laws of the list while it is filled.
 -- Assumes nothing.
-use mathlib.Core.Path.{◌≡◌, refl, ap, ◌∙◌}
+use mathlib.Core.Path.{◌≡◌, refl, ◌∙◌}
 use mathlib.Core.List.{List, [], ◌++◌}
 use Prim.Native.Nat.{ℕ, suc, ◌+◌, ◌-◌, ◌*◌, ◌≤◌, ◌<◌, zero-le}
 use native.Mathlib.Numerals.{add-one}
@@ -23,7 +23,6 @@ pub record Trying (run₀ : List ℕ) (i : ℕ) (list₀ : List ℤ) (count : �
   pub high : b ≤ first_byte + byte_count
   pub few : n ≤ count + (b - first_byte)
   pub long : length run ≡ length run₀
-  pub room : length list ≡ length list₀
   pub same : (x : ℕ) → set run i x ≡ set run₀ i x
   pub adds : Adds (at_offset run₀ i (b - first_byte)) i first_byte i b list₀ count list n
 
@@ -36,7 +35,6 @@ module _ {run₀ : List ℕ} {i : ℕ} {list₀ : List ℤ} {count : ℕ} where
         high = omega arith;
         few = omega arith;
         long = refl;
-        room = refl;
         same = λ x. refl;
         adds = adds_nothing;
       }
@@ -61,15 +59,14 @@ module _ {run₀ : List ℕ} {i : ℕ} {list₀ : List ℤ} {count : ℕ} where
           high = omega arith;
           few = omega arith;
           long = t.long;
-          room = t.room;
           same = t.same;
           adds = rw (next_bytes, e) (adds_then t.adds adds_none);
         }
 
     -- one that was tried
-    pub trying_byte : {list' : List ℤ} {n' : ℕ} → ByteTried (set run i b) i b list n list' n' → length list' ≡ length list → length run ≤ longest_run
+    pub trying_byte : {list' : List ℤ} {n' : ℕ} → ByteTried (set run i b) i b list n list' n' → length run ≤ longest_run
         → candidate run₀ i b ≡ entry_by (seen_in max_bytes_literal_length (set run₀ i b)) i b → Trying run₀ i list₀ count (set run i b) list' n' (b + 1)
-    trying_byte w r g e =
+    trying_byte w g e =
         let h = t.low in
         let k = t.few in
         let o = w.one in
@@ -78,7 +75,6 @@ module _ {run₀ : List ℕ} {i : ℕ} {list₀ : List ℤ} {count : ℕ} where
           high = omega arith;
           few = omega arith;
           long = length-set run i b ∙ t.long;
-          room = r ∙ t.room;
           same = λ x. set-set run i b x ∙ t.same x;
           adds = rw (next_bytes, e) (adds_then t.adds (rw (t.same b) at (w.adds (rw length-set g))));
         }
@@ -99,32 +95,30 @@ pub record Walking (run₀ : List ℕ) (list₀ : List ℤ) (run : List ℕ) (li
   pub inside : i ≤ length run₀
   pub few : count ≤ i * byte_count
   pub same : run ≡ run₀
-  pub room : length list ≡ length list₀
   pub filled : Filled list₀ i first_byte (put_all [] (up_to run₀ i)) list count
 
 pub walking_first : {run₀ : List ℕ} {list₀ : List ℤ} → Walking run₀ list₀ run₀ list₀ 0 0
 unfolding up_to put_all
-walking_first {list₀ = list₀} = record { inside = zero-le; few = zero-le; same = refl; room = refl; filled = filled_none list₀ }
+walking_first {list₀ = list₀} = record { inside = zero-le; few = zero-le; same = refl; filled = filled_none list₀ }
 
 module _ {run₀ : List ℕ} {list₀ : List ℤ} {run : List ℕ} {list : List ℤ} {count i : ℕ} (w : Walking run₀ list₀ run list count i) where
   -- one offset more
   pub walking_next : {run' : List ℕ} {list' : List ℤ} {count' : ℕ} → i < length run₀ → OffsetTried run i list count list' count' → run' ≡ run
-      → length list' ≡ length list → Walking run₀ list₀ run' list' count' (i + 1)
+      → Walking run₀ list₀ run' list' count' (i + 1)
   unfolding up_to
-  walking_next h t e r =
+  walking_next h t e =
       let f = rw w.same at (t.adds.fills list₀ (put_all [] (up_to run₀ i)) w.filled) in
       record {
         inside = omega arith;
         few = omega (arith, t.few, w.few);
         same = e ∙ w.same;
-        room = r ∙ w.room;
         filled = rw (add-one i, put_all_append [] (up_to run₀ i) (at_offset run₀ i byte_count)) (rw (add-one i) at f);
       }
 
   -- all of them
-  pub walking_last : length run ≤ i → AllTried run₀ list₀ list count
+  pub walking_last : length run₀ ≤ i → AllTried run₀ list₀ list count
   unfolding suggestions_of
   walking_last h =
-      let e : i ≡ length run₀ = omega (arith, w.inside, ap length w.same) in
+      let e : i ≡ length run₀ = omega (arith, w.inside) in
       let f = rw e at w.filled in
       record { counted = f.counted; stored = f.stored }

@@ -1,9 +1,9 @@
 -- Helper definitions, for proofs and inner contracts alone: what is seen in a text by its first number, which bytes can stand there, and the list while it is
 -- filled.
-use Rattle.std.specs.Prelude.{◌≡◌, Bool, true, false, ◌&&◌, ◌||◌, ◌⊎◌, ℕ, ◌+◌, ◌-◌, ◌*◌, ◌≤◌, ◌<◌, T, ltb, eqb, ℤ, pos, ◌+ℤ◌, ◌-ℤ◌, length, take, drop}
+use Rattle.std.specs.Prelude.{◌≡◌, Bool, true, false, ◌&&◌, ◌||◌, ◌⊎◌, ℕ, ◌+◌, ◌-◌, ◌*◌, ◌≤◌, ◌<◌, ltb, eqb, ℤ, pos, ◌+ℤ◌, ◌-ℤ◌, length, take, drop, Option, Some, None}
 use mathlib.Core.List.{List, Memᴰ}
 use Prim.Native.Char.{code}
-use Rattle.std.specs.Int.Signed.{mag, non_neg}
+use Rattle.std.specs.Int.Signed.{mag}
 use Rattle.base.specs.Choice.{pick}
 use Rattle.base.specs.Bytes.{byte}
 use Rattle.base.specs.Buffers.{overlay}
@@ -19,11 +19,9 @@ use Rattle.suggestion_list.specs.declared.Suggestion.{Suggestion}
 use Rattle.suggest.specs.Calls.{longest_run}
 use Rattle.suggest.specs.Suggestions.{seen_in, first_byte, byte_count, entry_by, at_offset, suggestions_of}
 use Rattle.suggest.specs.declared.pieces.Around.{Around}
-use Rattle.suggest.specs.declared.seen.Seen.{Seen}
-use Rattle.suggest.specs.declared.seen.Seen.TheVariants.{Duration, Other}
 
 -- Types of the code (src/pieces.rt). `Around`, a piece of a text from `start` to `end`, with what is seen before it, `head`, and behind it, `tail`.
--- Types that other files explain: `Lexeme` in lexeme/specs/Lexeme.antt; `Suggestion` in suggestion_list/specs/Order.antt; `Seen` in Suggestions.antt.
+-- Types that other files explain: `Lexeme` in lexeme/specs/Lexeme.antt; `Suggestion` in suggestion_list/specs/Order.antt.
 
 -- ---- what is seen, without a reading
 
@@ -32,15 +30,15 @@ unfoldable pub starts_number : ℕ → Bool
 starts_number b = is_digit b || eqb b (code "-")
 
 -- what is seen where this token is the first, and nothing but blanks is left or something else is
-unfoldable pub seen_by : Lexeme → Bool → Seen
-seen_by x blank = pick (blank && is_duration x.kind) (Duration x.nanos) Other
+unfoldable pub seen_by : Lexeme → Bool → Option ℤ
+seen_by x blank = pick (blank && is_duration x.kind) (Some x.nanos) None
 
 -- what is seen: blanks, a number that is a Duration, blanks to the end
-unfoldable pub seen_of : List ℕ → Seen
+unfoldable pub seen_of : List ℕ → Option ℤ
 seen_of text =
     let start = start_at text 0 in
     let x = lex_number (drop start text) in
-    pick (starts_number (byte text start)) (seen_by x (eqb (start_at text (start + x.len)) (length text))) Other
+    pick (starts_number (byte text start)) (seen_by x (eqb (start_at text (start + x.len)) (length text))) None
 
 -- ---- a text cut in two, behind a letter and before a digit
 
@@ -49,25 +47,20 @@ unfoldable pub is_minus : List ℕ → Bool
 is_minus text = eqb (byte text (start_at text 0)) (code "-")
 
 -- a sum that a signed 64-bit number holds
-abbrev pub seen_sum : ℤ → Seen
-seen_sum z = pick (ltb (mag z) 0x8000000000000000) (Duration z) Other
+abbrev pub seen_sum : ℤ → Option ℤ
+seen_sum z = pick (ltb (mag z) 0x8000000000000000) (Some z) None
 
 -- what is seen in both parts as one: the second has no sign of its own and is added under that of the first
-unfoldable pub join_seen : Bool → Seen → Seen → Seen
-join_seen neg (Duration a) (Duration b) = seen_sum (pick neg (a -ℤ b) (a +ℤ b))
-join_seen neg (Duration a) Other = Other
-join_seen neg Other b = Other
+unfoldable pub join_seen : Bool → Option ℤ → Option ℤ → Option ℤ
+join_seen neg (Some a) (Some b) = seen_sum (pick neg (a -ℤ b) (a +ℤ b))
+join_seen neg (Some a) None = None
+join_seen neg None b = None
 
 -- a printable byte that can stand where one Duration is all that is seen
 unfoldable pub can_stand : ℕ → Bool
 can_stand b = (((is_digit b || is_duration_unit b) || eqb b (code " ")) || eqb b (code "-")) || eqb b (code ".")
 
 -- ---- the pieces of a text, of which one changes
-
--- no sign is seen
-abbrev pub NoSign : Seen → Type 0
-NoSign (Duration z) = T (non_neg z)
-NoSign Other = Unit {0}
 
 -- a text can be cut at p: behind a letter and before a digit
 pub record Seam (text : List ℕ) (p : ℕ) : Type 0 where
@@ -86,21 +79,21 @@ pub record CutAfter (run : List ℕ) (i r : ℕ) : Type 0 where
   pub seam : r < length run → (i + 1 < r) × Seam run r
 
 -- an answer that is false only where no zero is seen under `-`
-abbrev pub MinusZero : Bool → Seen → Bool → Type 0
-MinusZero neg seen r = r ≡ false → neg ≡ true → seen ≡ Duration (pos 0) → ⊥
+abbrev pub MinusZero : Bool → Option ℤ → Bool → Type 0
+MinusZero neg seen r = r ≡ false → neg ≡ true → seen ≡ Some (pos 0) → ⊥
 
 -- what is seen before a cut
-pub record HeadSeen (text : List ℕ) (start : ℕ) (head : Seen) : Type 0 where
+pub record HeadSeen (text : List ℕ) (start : ℕ) (head : Option ℤ) : Type 0 where
   pub seam : Seam text start
   pub known : head ≡ seen_of (take start text)
 
 -- what is seen behind a cut
-pub record TailSeen (text : List ℕ) (end : ℕ) (tail : Seen) : Type 0 where
+pub record TailSeen (text : List ℕ) (end : ℕ) (tail : Option ℤ) : Type 0 where
   pub seam : Seam text end
   pub known : tail ≡ seen_of (drop end text)
 
 -- a text of which `head` is seen before `start`
-pub record Front (text : List ℕ) (start : ℕ) (head : Seen) : Type 0 where
+pub record Front (text : List ℕ) (start : ℕ) (head : Option ℤ) : Type 0 where
   pub inside : start ≤ length text
   pub before : 0 < start → HeadSeen text start head
 

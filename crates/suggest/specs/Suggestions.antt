@@ -1,5 +1,5 @@
 -- The suggestions for a run, as a list that is computed: each candidate in the order of offset and byte, kept where it counts, and put in order.
-use Rattle.std.specs.Prelude.{◌&&◌, List, [], ◌∷◌, ◌++◌, ℕ, zero, suc, ◌+◌, eqb, length}
+use Rattle.std.specs.Prelude.{◌&&◌, List, [], ◌∷◌, ◌++◌, ℕ, zero, suc, ◌+◌, eqb, ℤ, length, Option, Some, None}
 use Rattle.base.specs.Choice.{pick}
 use Rattle.base.specs.Bytes.{byte}
 use Rattle.limits.specs.Limits.{max_bytes_literal_length}
@@ -11,23 +11,20 @@ use Rattle.reading.specs.Refusals.{judge_of, after_judge}
 use Rattle.suggestion_list.specs.Order.{put_all}
 use Rattle.suggestion_list.specs.declared.Suggestion.{Suggestion}
 use Rattle.suggest.specs.Counts.{replaced}
-use Rattle.suggest.specs.declared.seen.Seen.{Seen}
-use Rattle.suggest.specs.declared.seen.Seen.TheVariants.{Duration, Other}
 
--- Types of the code (src/seen.rt). `Seen`, what is seen in a text: `Duration nanos`, one Duration and, but for the Eof, nothing else; or `Other`.
 -- Types that other files explain: `Record` in token/specs/Layout.antt; `Reading` in lexer/specs/Reading.antt; `Suggestion` in
 -- suggestion_list/specs/Order.antt.
 
--- the nanoseconds of records that are a Duration and the Eof
-abbrev pub only_duration : List Record → Seen
-only_duration [] = Other
-only_duration (d ∷ []) = Other
-only_duration (d ∷ e ∷ []) = pick (eqb d.kind duration_number && eqb e.kind eof_number) (Duration d.nanos) Other
-only_duration (d ∷ e ∷ f ∷ rs) = Other
+-- the nanoseconds of records that are a Duration and the Eof, and nothing else
+abbrev pub only_duration : List Record → Option ℤ
+only_duration [] = None
+only_duration (d ∷ []) = None
+only_duration (d ∷ e ∷ []) = pick (eqb d.kind duration_number && eqb e.kind eof_number) (Some d.nanos) None
+only_duration (d ∷ e ∷ f ∷ rs) = None
 
--- what the strict reader sees in a text; one that it refuses is no Duration
-unfoldable pub seen_in : ℕ → List ℕ → Seen
-seen_in limit text = after_judge (judge_of text) (λ r. Other) (only_duration (whole_laid Strict limit text).records)
+-- the nanoseconds of the one Duration that the strict reader sees in a text; one that it refuses is no Duration
+unfoldable pub seen_in : ℕ → List ℕ → Option ℤ
+seen_in limit text = after_judge (judge_of text) (λ r. None) (only_duration (whole_laid Strict limit text).records)
 
 -- "a different printable ASCII byte (0x20 to 0x7E)": the first of them, and how many there are
 abbrev pub first_byte : ℕ
@@ -37,9 +34,9 @@ abbrev pub byte_count : ℕ
 byte_count = 95
 
 -- an entry of what is seen, or none
-abbrev pub entry_by : Seen → ℕ → ℕ → List Suggestion
-entry_by (Duration z) i b = record { nanos = z; offset = i; byte = b } ∷ []
-entry_by Other i b = []
+abbrev pub entry_by : Option ℤ → ℕ → ℕ → List Suggestion
+entry_by (Some z) i b = record { nanos = z; offset = i; byte = b } ∷ []
+entry_by None i b = []
 
 -- what the byte b gives at the offset i, with the default limit: no text of one Duration has a bytes literal, so that it plays no part
 unfoldable pub candidate : List ℕ → ℕ → ℕ → List Suggestion

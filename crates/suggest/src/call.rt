@@ -1,42 +1,29 @@
 // The call: the suggestions for a run.
 ghost use Rattle.std.specs.Prelude.{◌≡◌};
-ghost use Rattle.suggest.specs.Calls.{good_run, suggested_number, suggested_value, SuggestsDurations};
+ghost use Rattle.suggest.specs.Calls.{refusal_number, good_run, SuggestsDurations};
 
-use crate::candidates::{BYTES, LONGEST, count_all, fill_all};
+use crate::candidates::{BYTES, LONGEST, ShortRun, count_all, fill_all};
+use base::answer::Numbered;
 use suggestion_list::ENTRY_WIDTH;
 use utf8::check::{Verdict, check};
 
-// What the call answers.
-#[derive(Clone, Copy)]
-pub enum Suggested {
-    // How many entries were written.
-    Entries(usize),
+// Why the call is refused.
+#[derive(Clone, Copy, PartialEq, Eq, Debug)]
+pub enum Refusal {
     // The run is empty, too long or not UTF-8.
     BadRun,
     // The list is shorter than its entries.
     ListShort,
 }
 
-impl Suggested {
-    // Document 02's number of the answer, 0 where the call is accepted.
-    pub fn number(self) -> u8
-        ensures { result ≡ suggested_number self }
-    {
-        match self {
-            Suggested::Entries(_) => 0,
-            Suggested::BadRun => 11,
-            Suggested::ListShort => 12,
-        }
-    }
+impl Numbered for Refusal {
+    ghost number_of = { refusal_number };
 
-    // How many entries were written; 0 where it is refused.
-    pub fn value(self) -> usize
-        ensures { result ≡ suggested_value self }
-    {
+    // Document 02's number.
+    fn number(self) -> u8 {
         match self {
-            Suggested::Entries(n) => n,
-            Suggested::BadRun => 0,
-            Suggested::ListShort => 0,
+            Refusal::BadRun => 11,
+            Refusal::ListShort => 12,
         }
     }
 }
@@ -55,16 +42,15 @@ fn good_run(run: &[u8]) -> bool
 }
 
 // Lists the suggestions for a run, in order. It counts them first, but where the list suffices for any run of the length.
-pub fn suggest_durations(run: &[u8], list: &mut [i64]) -> Suggested
+pub fn suggest_durations(run: &[u8], list: &mut [i64]) -> Result<usize, Refusal>
     ensures { SuggestsDurations run.now list.old result list.new }
 {
     if !good_run(run) {
-        return Suggested::BadRun;
+        return Err(Refusal::BadRun);
     }
-    if list.len() < run.len() * BYTES * ENTRY_WIDTH {
-        if list.len() < count_all(run) * ENTRY_WIDTH {
-            return Suggested::ListShort;
-        }
+    let short = ShortRun { bytes: run };
+    if list.len() < run.len() * BYTES * ENTRY_WIDTH && list.len() < count_all(short) * ENTRY_WIDTH {
+        return Err(Refusal::ListShort);
     }
-    Suggested::Entries(fill_all(run, list))
+    Ok(fill_all(short, list))
 }

@@ -9,13 +9,6 @@ use lexeme::Lexeme;
 use lexer::reading::{Reading, lex_in};
 use scan::run::Blank;
 
-#[derive(Clone, Copy)]
-pub enum Seen {
-    // One Duration of so many nanoseconds and, but for the Eof, nothing else.
-    Duration(i64),
-    Other,
-}
-
 // Whether a byte can begin a duration.
 fn starts_number(b: u8) -> bool
     ensures { result ≡ starts_number b }
@@ -23,25 +16,21 @@ fn starts_number(b: u8) -> bool
     is_digit(b) | (b == b'-')
 }
 
-// What is seen where this token is the first and nothing but blanks is left, or something else is.
-fn see_by(x: Lexeme, blank: bool) -> Seen
+// The nanoseconds of the one Duration that is seen where this token is the first and nothing but blanks is left, or something else is.
+fn see_by(x: Lexeme, blank: bool) -> Option<i64>
     ensures { result ≡ seen_by x blank }
 {
-    let kind = x.kind;
-    if blank & kind.is_duration() {
-        return Seen::Duration(x.nanos);
-    }
-    Seen::Other
+    (blank & x.kind.is_duration()).then_some(x.nanos)
 }
 
-// What is seen in a text: blanks, a number that is a Duration, blanks to the end; or anything else. The number is read by the lexer of all tokens, which
-// chooses anew: called from here too, the lexer of numbers would no longer be a part of that one, and every reading would pay for it.
-pub fn see(text: &[u8]) -> Seen
+// The nanoseconds of the one Duration that is seen in a text, if there are but blanks before and after it. The number is read by the lexer of all tokens,
+// which chooses anew: called from here too, the lexer of numbers would no longer be a part of that one, and every reading would pay for it.
+pub fn see(text: &[u8]) -> Option<i64>
     ensures { result ≡ seen_of text.now }
 {
     let start = reach_run(Blank, text, 0);
     if !starts_number(peek(text, start)) {
-        return Seen::Other;
+        return None;
     }
     let x = lex_in(&text[start..], Reading::Strict, 0);
     let end = start + x.len;

@@ -3,6 +3,7 @@
 // For each it prints a line: the answer's number and value, and the numbers of the list after the call.
 #![tactic(auto)]
 
+use base::answer::{number, value};
 use notation::numbers::put_number;
 use notation::parse;
 
@@ -31,9 +32,9 @@ fn one_case(line: &[u8]) {
     let room = parse::at_most(parse::digits(&line[..a]), 2400);
     let list = &mut numbers[..room];
     let r = suggest::call::suggest_durations(&run[..n], list);
-    io::print_decimal(1, r.number() as u64);
+    io::print_decimal(1, number(r) as u64);
     io::write_all(1, b" ");
-    io::print_decimal(1, r.value() as u64);
+    io::print_decimal(1, value(r) as u64);
     show_numbers(list);
 }
 

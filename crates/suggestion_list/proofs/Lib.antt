@@ -2,4 +2,4 @@ mod Signs
 pub mod Orders
 mod Rooms
 pub mod Rows
-mod Halves
+mod Chunks

@@ -7,7 +7,9 @@ use Rattle.base.specs.Buffers.{overlay}
 use Rattle.suggestion_list.specs.Order.{Rising, put}
 use Rattle.suggestion_list.specs.Rows.{entry_width, entry_rows}
 use Rattle.suggestion_list.specs.declared.Suggestion.{Suggestion}
+use Rattle.suggestion_list.specs.declared.Suggestions.{Suggestions}
 
+-- Types of the code (src/lib.rt). `Suggestions`: the lent slice of numbers, `list`, and the `count` of its entries.
 -- Types that other files explain: `Suggestion` in Order.antt.
 
 -- the nanoseconds of the k-th entry of a list of numbers
@@ -46,3 +48,8 @@ abbrev pub Added : Suggestion → ℕ → List ℤ → List ℤ → Type 0
 Added x count l l' =
     (es : List Suggestion) (l₀ : List ℤ) → Ready x es → count ≡ length es → (count + 1) * entry_width ≤ length l₀ → l ≡ overlay (entry_rows es) l₀
     → l' ≡ overlay (entry_rows (put x es)) l₀
+
+-- the list of x' is that of x, with other numbers
+pub record SameList (x x' : Suggestions) : Type 0 where
+  pub lent : x'.list.ghost_name ≡ x.list.ghost_name
+  pub size : length x'.list.now ≡ length x.list.now

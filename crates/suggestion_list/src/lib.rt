@@ -3,7 +3,7 @@
 
 ghost use Rattle.std.specs.Prelude.{◌≡◌, ◌+◌, ◌*◌, ◌≤◌, ◌<◌, length};
 ghost use Rattle.suggestion_list.specs.Rows.{entry_width};
-ghost use Rattle.suggestion_list.specs.Helpers.{Place, Moved, Added};
+ghost use Rattle.suggestion_list.specs.Helpers.{Place, Moved, Added, SameList};
 
 // How many numbers an entry has.
 pub const ENTRY_WIDTH: usize = 3;
@@ -16,22 +16,13 @@ pub struct Suggestion {
     pub byte: u8,
 }
 
-// Where an entry of so many nanoseconds goes among the first `count`, by halving: behind those of as many or fewer.
+// Where an entry of so many nanoseconds goes among the first `count`: behind those of as many or fewer.
 fn place_for(list: &[i64], count: usize, nanos: i64) -> usize
     requires { count * entry_width ≤ length list.now }
     ensures { Place list.now count nanos result }
 {
-    let mut low = 0;
-    let mut high = count;
-    while low < high {
-        let middle = low + (high - low) / 2;
-        if nanos < list[middle * ENTRY_WIDTH] {
-            high = middle;
-        } else {
-            low = middle + 1;
-        }
-    }
-    low
+    let (entries, _) = list[..count * ENTRY_WIDTH].as_chunks::<ENTRY_WIDTH>();
+    entries.partition_point(|entry| entry[0] <= nanos)
 }
 
 // Moves the numbers from `at` to `end` on by an entry, the last one first.
@@ -39,28 +30,51 @@ fn make_room(list: &mut [i64], at: usize, end: usize)
     requires { (at ≤ end) × (end + entry_width ≤ length list.old) }
     ensures { Moved list.old at end list.new }
 {
-    let mut i = end;
-    while at < i {
-        i -= 1;
-        let x = list[i];
-        list[i + ENTRY_WIDTH] = x;
+    for i in (at..end).rev() {
+        list[i + ENTRY_WIDTH] = list[i];
     }
 }
 
-// Puts an entry into its place among the first `count`, where the list has room for it, and counts it in any case. It comes after all of the others
-// by its offset and byte, so that those of as many nanoseconds stay before it.
-pub fn add(list: &mut [i64], count: usize, x: Suggestion) -> usize
+// Puts an entry into its place among the first `count`, where the list has room for it. It comes after all of the others by its offset and byte, so that
+// those of as many nanoseconds stay before it.
+fn put(list: &mut [i64], count: usize, x: Suggestion)
     requires { (count < 0x10000) × (x.offset < 0x10000) }
-    ensures { (result ≡ count + 1) × Added x count list.old list.new }
+    ensures { Added x count list.old list.new }
 {
     let end = count * ENTRY_WIDTH;
     if list.len() < end + ENTRY_WIDTH {
-        return count + 1;
+        return;
     }
-    let nanos = x.nanos;
-    let at = place_for(list, count, nanos) * ENTRY_WIDTH;
+    let at = place_for(list, count, x.nanos) * ENTRY_WIDTH;
     make_room(list, at, end);
-    let numbers = [nanos, x.offset as i64, x.byte as i64];
-    base::store(list, at, &numbers);
-    count + 1
+    base::store(list, at, &[x.nanos, x.offset as i64, x.byte as i64]);
+}
+
+// The suggestions so far, in order in a lent slice of numbers as far as it has room, and how many there are.
+#[derive(Drop)]
+pub struct Suggestions<'a> {
+    pub list: &'a mut [i64],
+    pub count: usize,
+}
+
+impl<'a> Suggestions<'a> {
+    // None yet.
+    pub fn new(list: &'a mut [i64]) -> Suggestions<'a>
+        ensures same_list { result.list.ghost_name ≡ list.entry.ghost_name }
+        ensures numbers { result.list.now ≡ list.old }
+        ensures none { result.count ≡ 0 }
+    {
+        Suggestions { list, count: 0 }
+    }
+
+    // Puts an entry into its place, where the list has room for it, and counts it in any case.
+    pub fn add(&mut self, x: Suggestion)
+        requires { (self.old.count < 0x10000) × (x.offset < 0x10000) }
+        ensures same_list { SameList self.old self.new }
+        ensures counted { self.new.count ≡ self.old.count + 1 }
+        ensures added { Added x self.old.count self.old.list.now self.new.list.now }
+    {
+        put(self.list, self.count, x);
+        self.count += 1;
+    }
 }

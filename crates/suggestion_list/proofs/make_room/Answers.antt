@@ -13,7 +13,7 @@ use Rattle.suggestion_list.proofs.Rooms.{moving, moving_first, moving_turn, movi
 use Rattle.suggestion_list.proofs.make_room.Goals as goal
 
 pub loop-i-init : goal.loop-i-init
-loop-i-init c = (omega arith, omega arith, refl, moving_first entry_width _ c.args.end)
+loop-i-init c = (c.requires.0, omega arith, refl, moving_first entry_width _ c.args.end)
 
 pub loop-i-preserved : goal.loop-i-preserved
 loop-i-preserved c = let a = c.args in
@@ -26,9 +26,6 @@ loop-i-preserved c = let a = c.args in
       simp length-set c.loop-i.invariant.2,
       rw (to_z-of_z w64 _ f, c.loop-i.invariant.3 ∙ ap (moving entry_width a.list.now a.end) e) t,
     )
-
-pub shape_of-list : goal.shape_of-list
-shape_of-list c = c.loop-i.invariant.2
 
 pub returns : goal.returns
 returns c = let e : c.loop-i.i ≡ c.args.at = omega arith in

@@ -8,6 +8,3 @@ use Rattle.suggestion_list.proofs.make_room.Given as goal
 
 abbrev pub invariant-loop-i : goal.invariant-loop-i
 invariant-loop-i l = (l.at ≤ l.i) × (l.i ≤ l.end) × (length l.list ≡ length l.initial.list) × (l.list ≡ moving entry_width l.initial.list l.end l.i)
-
-abbrev pub decreases-loop-i : goal.decreases-loop-i
-decreases-loop-i l = l.i

@@ -1,13 +1,10 @@
 -- `put_bytes` stores the bytes of whole groups and then of one group more in each turn, until fewer than four values are left. Assumes nothing.
-use mathlib.Core.Path.{refl, ap, ◌∙◌}
+use mathlib.Core.Path.{ap}
 use Prim.Native.Nat.{◌+◌, ◌*◌}
-use native.Mathlib.Omega.{arith}
-use lib.ListN.{length}
-use lib.Seq.{length-sets}
-use Rattle.base.proofs.Storings.{Storing, storing_first, storing_end}
+use Rattle.base.proofs.Storings.{Storing, storing_end}
 use Rattle.base64_lenient.specs.Lenient.{regroup}
 use Rattle.base64_lenient.specs.Helpers.{bytes_from}
-use Rattle.base64_lenient.proofs.Groups.{none_at_end, whole_stored, group_room, group_stored, last_stored}
+use Rattle.base64_lenient.proofs.Groups.{none_at_end, whole_stored, group_room, group_stored}
 use Rattle.base64_lenient.proofs.decode.put_bytes.Goals.{After-whole_groups-n}
 use Rattle.base64_lenient.proofs.decode.put_bytes.Goals as goal
 
@@ -16,41 +13,17 @@ whole : (c : After-whole_groups-n) → let a = c.args in let n = c.whole_groups-
     (bytes_from a.run.now (c.loop-i.i + n * 4)) c.whole_groups-n.new.out (c.loop-i.o + n * 3)
 whole c = whole_stored _ _ c.loop-i.invariant.1 c.whole_groups-n.ensures
 
-pub loop-i-init : goal.loop-i-init
-loop-i-init c = (omega arith, storing_first (omega arith))
-
-pub whole_groups-n-requires : goal.whole_groups-n-requires
-whole_groups-n-requires c = let u = c.loop-i.invariant in
-    (refl, u.0, omega (arith, u.1.room, u.1.same))
-
-pub next_group-group-requires : goal.next_group-group-requires
-next_group-group-requires c = (refl, c.whole_groups-n.ensures.inside)
-
 pub put_group-requires : goal.put_group-requires
 put_group-requires c =
     let at = goal.at.put_group-requires c in
-    let e = c.next_group-group.ensures in
+    let e = c.next_group-count.ensures in
     (e.gathered.few, group_room _ _ (whole at.After-whole_groups-n) e, e.gathered.small)
-
-pub shape_of-out-then-count-lt4 : goal.shape_of-out-then-count-lt4
-shape_of-out-then-count-lt4 c =
-    let at = goal.at.shape_of-out-then-count-lt4 c in
-    ap length (last_stored _ _ (whole at.After-whole_groups-n) c.next_group-group.ensures _ c.put_group.ensures c.if-count-lt4.true) ∙ simp
-    length-sets
-
-pub returns-then-count-lt4 : goal.returns-then-count-lt4
-returns-then-count-lt4 c =
-    let at = goal.at.returns-then-count-lt4 c in
-    last_stored _ _ (whole at.After-whole_groups-n) c.next_group-group.ensures _ c.put_group.ensures c.if-count-lt4.true
 
 pub loop-i-preserved : goal.loop-i-preserved
 loop-i-preserved c =
     let at = goal.at.loop-i-preserved c in
-    let e = c.next_group-group.ensures in
+    let e = c.next_group-count.ensures in
     (e.gathered.inside, group_stored _ _ (whole at.After-whole_groups-n) e _ c.put_group.ensures c.if-count-lt4.false)
-
-pub shape_of-out : goal.shape_of-out
-shape_of-out c = c.loop-i.invariant.1.same
 
 pub returns : goal.returns
 unfolding regroup

@@ -9,20 +9,19 @@ use Rattle.suggest.proofs.SeenTexts.{seen_same}
 use Rattle.suggest.proofs.Fills.{adds_none, adds_one}
 use Rattle.suggest.proofs.candidates.try_byte.Goals as goal
 
-pub returns-in-Duration : goal.returns-in-Duration
-returns-in-Duration c = let a = c.args in
-    let f : SFits w64 c.in-Duration.nanos = search rules in
-    let e = rw (to_z-of_z w64 c.in-Duration.nanos f) at c.add.ensures in
+pub returns-in-Some-clause-tried : goal.returns-in-Some-clause-tried
+returns-in-Some-clause-tried c = let a = c.args in
+    let f : SFits w64 c.in-Some.nanos = search rules in
     record {
       one = omega arith;
       adds = λ h.
-          rw (← seen_same max_bytes_literal_length a.text.now (omega arith), ← c.see_around.ensures, c.in-Duration.is, e.0)
-          (adds_one c.in-Duration.nanos a.i a.b e.1);
+          rw (← seen_same max_bytes_literal_length a.text.now (omega arith), ← c.see_around.ensures, c.in-Some.is, c.add.ensures.counted)
+          (adds_one c.in-Some.nanos a.i a.b (rw (to_z-of_z w64 c.in-Some.nanos f) at c.add.ensures.added));
     }
 
-pub returns-in-Other : goal.returns-in-Other
-returns-in-Other c = let a = c.args in
+pub returns-in_default-clause-tried : goal.returns-in_default-clause-tried
+returns-in_default-clause-tried c = let a = c.args in
     record {
       one = omega arith;
-      adds = λ h. rw (← seen_same max_bytes_literal_length a.text.now (omega arith), ← c.see_around.ensures, c.in-Other.is) adds_none;
+      adds = λ h. rw (← seen_same max_bytes_literal_length a.text.now (omega arith), ← c.see_around.ensures, c.in_default.is) adds_none;
     }

@@ -1,32 +1,34 @@
--- `try_offsets` meets its contract: the offsets before this one were tried, and the run is as it was. Assumes nothing.
-use mathlib.Core.Path.{ap}
+-- `try_offsets` meets its contract: the offsets before this one were tried, and the copy of the run is as it was. Assumes nothing.
+use mathlib.Core.Path.{◌≡◌, ap}
+use mathlib.Core.List.{List}
+use Prim.Native.Nat.{ℕ, ◌≤◌}
 use native.Mathlib.Omega.{arith}
-use lib.ListN.{length}
+use lib.ListN.{length, take, drop}
+use lib.Seq.{sets, take-length, take-append_seam}
+use Rattle.base.proofs.Stores.{overlaid}
+use Rattle.suggest.proofs.Fills.{same_self, same_then}
 use Rattle.suggest.proofs.Turns.{walking_first, walking_next, walking_last}
 use Rattle.suggest.proofs.candidates.try_offsets.Goals as goal
 
+-- a list stored at the front of another one is its front
+front : (l run : List ℕ) → length run ≤ length l → take (length run) (sets l 0 (take (length run) (drop 0 run))) ≡ run
+front l run h = rw (take-length run, overlaid run l h) (take-append_seam run _)
+
 pub loop-i-init : goal.loop-i-init
-loop-i-init c = walking_first
+loop-i-init c =
+    let run = c.args.run.bytes.now in
+    let copied : take (length run) c.copy.new.dst ≡ run = rw c.copy.ensures (front _ run c.requires.0) in
+    (same_self _, rw (copied, c.requires.1) walking_first)
 
-pub try_offset-count-requires : goal.try_offset-count-requires
-try_offset-count-requires c = let w = c.loop-i.invariant in
+pub try_offset-requires : goal.try_offset-requires
+try_offset-requires c = let w = c.loop-i.invariant.1 in
     let e = ap length w.same in
-    (c.loop-i-test.true, omega (arith, c.requires), w.few)
-
-pub loop-i-smaller : goal.loop-i-smaller
-loop-i-smaller c = omega (arith, c.loop-i-test.true, c.try_offset-count.auto.run)
+    (omega (arith, e, c.loop-i-test.true), omega (arith, e), w.few)
 
 pub loop-i-preserved : goal.loop-i-preserved
-loop-i-preserved c = let l = c.loop-i in
-    let n = ap length l.invariant.same in
-    walking_next l.invariant (omega (arith, c.loop-i-test.true)) c.try_offset-count.ensures.0 c.try_offset-count.ensures.1
-    c.try_offset-count.auto.list
+loop-i-preserved c =
+    let e = c.try_offset.ensures in
+    (same_then c.loop-i.invariant.0 e.same_list, walking_next c.loop-i.invariant.1 c.loop-i-test.true e.tried e.same_run)
 
-pub shape_of-run : goal.shape_of-run
-shape_of-run c = ap length c.loop-i.invariant.same
-
-pub shape_of-list : goal.shape_of-list
-shape_of-list c = c.loop-i.invariant.room
-
-pub returns : goal.returns
-returns c = walking_last c.loop-i.invariant c.loop-i-test.false
+pub returns-clause-tried : goal.returns-clause-tried
+returns-clause-tried c = walking_last c.loop-i.invariant.1 c.loop-i-test.false

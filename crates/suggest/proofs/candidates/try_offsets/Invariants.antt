@@ -1,11 +1,7 @@
--- `try_offsets` meets its contract: the offsets before this one were tried, and the run is as it was. Assumes nothing.
-use Prim.Native.Nat.{◌-◌}
-use lib.ListN.{length}
+-- `try_offsets` meets its contract: the offsets before this one were tried, and the copy of the run is as it was. Assumes nothing.
+use Rattle.suggestion_list.specs.Helpers.{SameList}
 use Rattle.suggest.proofs.Turns.{Walking}
 use Rattle.suggest.proofs.candidates.try_offsets.Given as goal
 
 abbrev pub invariant-loop-i : goal.invariant-loop-i
-invariant-loop-i l = Walking l.initial.run l.initial.list l.run l.list l.count l.i
-
-abbrev pub decreases-loop-i : goal.decreases-loop-i
-decreases-loop-i l = length l.run - l.i
+invariant-loop-i l = SameList l.initial.found l.found × Walking l.run.bytes.now l.initial.found.list.now l.copy l.found.list.now l.found.count l.i

@@ -1,63 +1,42 @@
--- `join` is `join_seen`: the bound that it compares with fits, and by its test the sum does. Assumes nothing.
+-- `join` is `join_seen`: a sum that the library's checked methods give is one that fits. Assumes nothing.
+use Rattle.std.specs.Prelude.{Option, Some, None, FitsSigned}
+use Rattle.std.specs.Option.{SomeIff}
+use mathlib.Core.Path.{◌≡◌, ◌∙◌}
 use borrow.Author.Rules.{rules}
+use lib.Dec.{ltb}
+use lib.IntN.{ℤ}
+use lib.Signed.{mag}
 use mir.Syntax.{w64}
-use mir.Val.{to_z, of_z}
-use Rattle.suggest.specs.Helpers.{join_seen}
-use Rattle.suggest.proofs.Joins.{Known, known, least_fits, greatest_fits, minus_fits, minus_over, minus_seen, plus_fits, plus_over, plus_seen}
+use mir.Val.{SFits}
+use mir.ValLaws.{to_z-of_z}
+use borrow.Author.Tests.{lt-ltb, ltb-true}
+use Rattle.base.proofs.Tests.{by_cases}
+use Rattle.suggest.specs.Helpers.{seen_sum, join_seen}
 use Rattle.suggest.proofs.pieces.join.Goals as goal
 
-pub returns-in_default : goal.returns-in_default
+-- a sum where it fits
+checked : (r : Option ℤ) (z : ℤ) → SomeIff r (FitsSigned w64 z) z → r ≡ seen_sum z
+checked None z h = by_cases (ltb (mag z) 0x8000000000000000) (λ e. absurd (h (record { sfits = ltb-true _ _ e }))) (λ e. rw e)
+checked (Some x) z h = rw (lt-ltb (mag z) 0x8000000000000000 h.0.sfits, h.1)
+
+pub returns-in_err-x : goal.returns-in_err-x
 unfolding join_seen
-returns-in_default c = rw c.in_default.is
+returns-in_err-x c = c.from_residual.ensures ∙ rw (c.in_err-x.was)
 
-pub returns-in_default-b : goal.returns-in_default-b
+pub returns-in_err-y : goal.returns-in_err-y
 unfolding join_seen
-returns-in_default-b c = rw (c.in-Duration.is, c.in_default-b.is)
-
-pub overflow_add-y : goal.overflow_add-y
-overflow_add-y c =
-    let p : Known c.args.a c.args.b (to_z w64 (of_z w64 c.in-Duration.x)) (to_z w64 (of_z w64 c.in-Duration-b.y)) =
-    known c.in-Duration.is c.in-Duration-b.is (search rules) (search rules) c.requires in
-    least_fits p
-
-pub returns-then-x-y : goal.returns-then-x-y
-returns-then-x-y c =
-    let p : Known c.args.a c.args.b (to_z w64 (of_z w64 c.in-Duration.x)) (to_z w64 (of_z w64 c.in-Duration-b.y)) =
-    known c.in-Duration.is c.in-Duration-b.is (search rules) (search rules) c.requires in
-    minus_over p c.if-neg.true c.if-x-y.true
-
-pub overflow_sub-result : goal.overflow_sub-result
-overflow_sub-result c =
-    let p : Known c.args.a c.args.b (to_z w64 (of_z w64 c.in-Duration.x)) (to_z w64 (of_z w64 c.in-Duration-b.y)) =
-    known c.in-Duration.is c.in-Duration-b.is (search rules) (search rules) c.requires in
-    minus_fits p c.if-x-y.false
+returns-in_err-y c = c.from_residual-in_err-y.ensures ∙ rw (c.in_ok-x.was, c.in_err-y.was)
 
 pub returns-then-neg : goal.returns-then-neg
+unfolding join_seen
 returns-then-neg c =
-    let p : Known c.args.a c.args.b (to_z w64 (of_z w64 c.in-Duration.x)) (to_z w64 (of_z w64 c.in-Duration-b.y)) =
-    known c.in-Duration.is c.in-Duration-b.is (search rules) (search rules) c.requires in
-    minus_seen p c.if-neg.true c.if-x-y.false
+    let f : SFits w64 c.in_ok-x.x = search rules in
+    let g : SFits w64 c.in_ok-y.y = search rules in
+    rw (c.if-neg.true, c.in_ok-x.was, c.in_ok-y.was) (rw (to_z-of_z w64 _ f, to_z-of_z w64 _ g) at (checked _ _ c.checked_sub.ensures))
 
-pub overflow_sub-y : goal.overflow_sub-y
-overflow_sub-y c =
-    let p : Known c.args.a c.args.b (to_z w64 (of_z w64 c.in-Duration.x)) (to_z w64 (of_z w64 c.in-Duration-b.y)) =
-    known c.in-Duration.is c.in-Duration-b.is (search rules) (search rules) c.requires in
-    greatest_fits p
-
-pub returns-then-y-x : goal.returns-then-y-x
-returns-then-y-x c =
-    let p : Known c.args.a c.args.b (to_z w64 (of_z w64 c.in-Duration.x)) (to_z w64 (of_z w64 c.in-Duration-b.y)) =
-    known c.in-Duration.is c.in-Duration-b.is (search rules) (search rules) c.requires in
-    plus_over p c.if-neg.false c.if-y-x.true
-
-pub overflow_add-result : goal.overflow_add-result
-overflow_add-result c =
-    let p : Known c.args.a c.args.b (to_z w64 (of_z w64 c.in-Duration.x)) (to_z w64 (of_z w64 c.in-Duration-b.y)) =
-    known c.in-Duration.is c.in-Duration-b.is (search rules) (search rules) c.requires in
-    plus_fits p c.if-y-x.false
-
-pub returns : goal.returns
-returns c =
-    let p : Known c.args.a c.args.b (to_z w64 (of_z w64 c.in-Duration.x)) (to_z w64 (of_z w64 c.in-Duration-b.y)) =
-    known c.in-Duration.is c.in-Duration-b.is (search rules) (search rules) c.requires in
-    plus_seen p c.if-neg.false c.if-y-x.false
+pub returns-else-neg : goal.returns-else-neg
+unfolding join_seen
+returns-else-neg c =
+    let f : SFits w64 c.in_ok-x.x = search rules in
+    let g : SFits w64 c.in_ok-y.y = search rules in
+    rw (c.if-neg.false, c.in_ok-x.was, c.in_ok-y.was) (rw (to_z-of_z w64 _ f, to_z-of_z w64 _ g) at (checked _ _ c.checked_add.ensures))

@@ -3,7 +3,7 @@ use mathlib.Core.Path.{sym, ◌∙◌}
 use native.Mathlib.Omega.{arith}
 use lib.Seq.{length-take-le, take-length}
 use Rattle.suggest.specs.Helpers.{TailSeen}
-use Rattle.suggest.proofs.Seams.{seam_seen, seam_no_sign, front_cut}
+use Rattle.suggest.proofs.Seams.{seam_seen, front_cut}
 use Rattle.suggest.proofs.pieces.see_around.Goals.{Else-end-text}
 use Rattle.suggest.proofs.pieces.see_around.Goals as goal
 
@@ -22,12 +22,6 @@ returns-then-end-text c = c.see_front-front.ensures ∙ rw (c.if-end-text.true, 
 
 pub returns-then-is_minus_zero : goal.returns-then-is_minus_zero
 returns-then-is_minus_zero c = c.see.ensures
-
-pub join-requires : goal.join-requires
-join-requires c =
-    let at = goal.at.join-requires c in
-    let t = (behind at.Else-end-text) in
-    rw t.known (seam_no_sign t.seam)
 
 pub returns : goal.returns
 returns c =

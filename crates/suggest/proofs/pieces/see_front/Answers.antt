@@ -6,7 +6,7 @@ use borrow.Author.Tests.{eqb-false}
 use Rattle.base.proofs.Reaches.{rest_is}
 use Rattle.base.proofs.Tests.{or_left, or_right}
 use Rattle.suggest.specs.Helpers.{HeadSeen}
-use Rattle.suggest.proofs.Seams.{seam_seen, seam_no_sign}
+use Rattle.suggest.proofs.Seams.{seam_seen}
 use Rattle.suggest.proofs.pieces.see_front.Goals.{Else-start-is_minus_zero}
 use Rattle.suggest.proofs.pieces.see_front.Goals as goal
 
@@ -22,11 +22,6 @@ slice_bounds-see-count c = c.requires.inside
 
 pub slice_bounds-see-start : goal.slice_bounds-see-start
 slice_bounds-see-start c = c.requires.inside
-
-pub join-requires : goal.join-requires
-join-requires c =
-    let at = goal.at.join-requires c in
-    rw (rw rest_is at c.see-2.ensures) (seam_no_sign (cut at.Else-start-is_minus_zero).seam)
 
 pub returns : goal.returns
 returns c =

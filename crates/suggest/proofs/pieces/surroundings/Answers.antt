@@ -18,13 +18,13 @@ cut_in : (run : List ℕ) (i r : ℕ) → i ≤ length run → CutBefore run i r
 cut_in run i r h f = by_cases (ltb 0 r) (λ t. omega (arith, (f (ltb-true 0 r t)).0)) (λ t. omega (arith, ltb-false 0 r t))
 
 pub cut_before-start-requires : goal.cut_before-start-requires
-cut_before-start-requires c = omega (arith, c.requires.0)
+cut_before-start-requires c = omega (arith, c.requires)
 
 pub cut_after-end-requires : goal.cut_after-end-requires
 cut_after-end-requires c = c.requires
 
 pub slice_bounds-see-end : goal.slice_bounds-see-end
-slice_bounds-see-end c = sym (length-take-le _ _ (cut_in c.args.run.now c.args.i _ (omega (arith, c.requires.0)) c.cut_before-start.ensures))
+slice_bounds-see-end c = sym (length-take-le _ _ (cut_in c.args.run.now c.args.i _ (omega (arith, c.requires)) c.cut_before-start.ensures))
 
 pub slice_bounds-see-count : goal.slice_bounds-see-count
 slice_bounds-see-count c = c.cut_after-end.ensures.inside

@@ -1,12 +1,15 @@
--- `judged` is `judged_seen`: one branch each. Assumes nothing.
-use mathlib.Core.Path.{sym}
+-- `judged` is `judged_seen`: both ask the same test. Assumes nothing.
+use mathlib.Core.Path.{◌∙◌}
+use mathlib.Core.Bool.{not, ◌&&◌}
+use lib.Dec.{eqb}
+use Rattle.base.proofs.Tests.{by_cases}
+use Rattle.base64_lenient.specs.Lenient.{right_pads}
 use Rattle.base64_lenient.specs.Helpers.{judged_seen}
 use Rattle.base64_lenient.proofs.judge.Seen.judged.Goals as goal
 
-pub returns-then-self-right_pads : goal.returns-then-self-right_pads
-unfolding judged_seen
-returns-then-self-right_pads c = let q = c.if-self-right_pads.true in rw (← c.right_pads.ensures) (sym (rw q))
-
 pub returns : goal.returns
 unfolding judged_seen
-returns c = let q = c.if-self-right_pads.false in rw (← c.right_pads.ensures) (sym (rw q))
+returns c =
+    let w = c.args.self in
+    c.then_some.ensures ∙ rw c.right_pads.ensures
+    (by_cases (not (eqb w.alphabets 0) && right_pads w.characters w.pads) (λ e. rw e) (λ e. rw e))

@@ -3,21 +3,21 @@ use mathlib.Core.Path.{◌≡◌, ap}
 use mathlib.Core.List.{List}
 use Prim.Native.Nat.{ℕ, ◌≤◌}
 use native.Mathlib.Omega.{arith}
-use lib.ListN.{length, take, drop}
-use lib.Seq.{sets, take-length, take-append_seam}
+use lib.ListN.{length, take}
+use lib.Seq.{sets, take-append_seam}
 use Rattle.base.proofs.Stores.{overlaid}
 use Rattle.suggest.proofs.Fills.{same_self, same_then}
 use Rattle.suggest.proofs.Turns.{walking_first, walking_next, walking_last}
 use Rattle.suggest.proofs.candidates.try_offsets.Goals as goal
 
 -- a list stored at the front of another one is its front
-front : (l run : List ℕ) → length run ≤ length l → take (length run) (sets l 0 (take (length run) (drop 0 run))) ≡ run
-front l run h = rw (take-length run, overlaid run l h) (take-append_seam run _)
+front : (l run : List ℕ) → length run ≤ length l → take (length run) (sets l 0 run) ≡ run
+front l run h = rw (overlaid run l h) (take-append_seam run _)
 
 pub loop-i-init : goal.loop-i-init
 loop-i-init c =
     let run = c.args.run.bytes.now in
-    let copied : take (length run) c.copy.new.dst ≡ run = rw c.copy.ensures (front _ run c.requires.0) in
+    let copied : take (length run) c.copy.new.buf ≡ run = rw c.copy.ensures (front _ run c.requires.0) in
     (same_self _, rw (copied, c.requires.1) walking_first)
 
 pub try_offset-requires : goal.try_offset-requires

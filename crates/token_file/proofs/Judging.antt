@@ -1,4 +1,4 @@
--- For the loops that judge rows, `rules_hold` of records and of a file, and for `kept` and `some_long_column`: whether the rows that are left keep the
+-- For the loops that judge rows, `rules_hold` of records and of a file, and for `checked` and `some_long_column`: whether the rows that are left keep the
 -- rules decides. A turn takes the first of them off. Assumes nothing.
 use mathlib.Core.Path.{◌≡◌, refl, sym, ◌∙◌}
 use mathlib.Core.Bool.{Bool, true, false, not, ◌&&◌, ◌||◌}
@@ -20,7 +20,7 @@ use Rattle.token.specs.Layout.{record_width}
 use Rattle.token.specs.Reason.{reason_ok}
 use Rattle.token_file.specs.Rules.{natural_of, field_at, row_at, natural_row, row_ok, rows_ok, some_above}
 use Rattle.token_file.specs.Format.{header_width, bytes_rows}
-use Rattle.token_file.specs.Fits.{last_ok, all_natural, Kept}
+use Rattle.token_file.specs.Fits.{last_ok, all_natural, CheckedRecords}
 use Rattle.token_file.specs.Calls.{records_ok}
 use Rattle.token_file.specs.declared.row.Row.{Row}
 use Rattle.token_file.specs.declared.layout.Layout.{Layout}
@@ -105,23 +105,23 @@ module _ {l : List (List ℤ)} {i prev : ℕ} (w : JudgingRecords l i prev) wher
 
 module _ (l : List ℤ) {count : ℕ} {all : List (List ℤ)} (a : all ≡ first_chunks record_width (length l / record_width) l)
     (n : length all ≡ length l / record_width) where
-  pub kept_short : length all < count → records_ok l count ≡ false
+  pub checked_short : length all < count → records_ok l count ≡ false
   unfolding records_ok
-  kept_short h = rw (lt-leb (count * record_width) (length l) (omega arith))
+  checked_short h = rw (lt-leb (count * record_width) (length l) (omega arith))
 
   module _ (h : count ≤ length all) {b : Bool} (e : b ≡ all_natural (take count all) && rows_ok reason_ok 0 (map row_at (take count all))) where
-    kept_are : take count all ≡ first_chunks record_width count l
-    kept_are = rw a (chunks_first count (length l / record_width) l (omega arith))
+    checked_are : take count all ≡ first_chunks record_width count l
+    checked_are = rw a (chunks_first count (length l / record_width) l (omega arith))
 
-    kept_judged : records_ok l count ≡ b
+    checked_judged : records_ok l count ≡ b
     unfolding records_ok
-    kept_judged = rw (le-leb (count * record_width) (length l) (omega arith), e, kept_are, natural_chunks count l, rows_of_chunks count l)
+    checked_judged = rw (le-leb (count * record_width) (length l) (omega arith), e, checked_are, natural_chunks count l, rows_of_chunks count l)
 
-    pub kept_not : b ≡ false → records_ok l count ≡ false
-    kept_not t = kept_judged ∙ t
+    pub checked_not : b ≡ false → records_ok l count ≡ false
+    checked_not t = checked_judged ∙ t
 
-    pub kept_all : b ≡ true → Kept l count (take count all)
-    kept_all t = record { rules = kept_judged ∙ t; are = kept_are }
+    pub checked_all : b ≡ true → CheckedRecords l count (take count all)
+    checked_all t = record { rules = checked_judged ∙ t; are = checked_are }
 
 -- ---- a column above a bound
 

@@ -11,7 +11,7 @@ use lib.Seq.{drop-drop}
 use Rattle.std.specs.Simd.{first_chunks}
 use Rattle.std.proofs.lemmas.List.{drop-map, at_drop_more, get_or-take}
 use Rattle.token.specs.Layout.{record_width}
-use Rattle.token_file.specs.Rules.{row_at, rows_of, natural_row, natural_rows, row_numbers, rows_numbers}
+use Rattle.token_file.specs.Rules.{field_at, row_at, rows_of, natural_row, natural_rows, row_numbers, rows_numbers}
 use Rattle.token_file.specs.Format.{header_width, row_width, row_bytes, rows_bytes, file_width, bytes_row, bytes_rows}
 use Rattle.token_file.specs.Fits.{all_natural}
 use Rattle.token_file.specs.declared.row.Row.{Row}
@@ -52,29 +52,33 @@ next_width y i = let e : i + 1 ≡ suc i = omega arith in rw e (omega (arith, mu
 
 -- ---- the records of a slice
 
-row_of_chunk : (l : List ℤ) → row_at (take record_width l) ≡ row_at l
-unfolding row_at
-row_of_chunk l =
-    rw (
-      get_or-take record_width l 0 (pos 0) (omega arith),
-      get_or-take record_width l 1 (pos 0) (omega arith),
-      get_or-take record_width l 3 (pos 0) (omega arith),
-      get_or-take record_width l 4 (pos 0) (omega arith),
-      get_or-take record_width l 5 (pos 0) (omega arith),
-      get_or-take record_width l 6 (pos 0) (omega arith),
-    )
+module _ (l : List ℤ) where
+  field_of_chunk : (k : ℕ) → k < record_width → field_at (take record_width l) k ≡ field_at l k
+  field_of_chunk k h = get_or-take record_width l k (pos 0) h
 
-natural_of_chunk : (l : List ℤ) → natural_row (take record_width l) ≡ natural_row l
-unfolding natural_row
-natural_of_chunk l =
-    rw (
-      get_or-take record_width l 0 (pos 0) (omega arith),
-      get_or-take record_width l 1 (pos 0) (omega arith),
-      get_or-take record_width l 3 (pos 0) (omega arith),
-      get_or-take record_width l 4 (pos 0) (omega arith),
-      get_or-take record_width l 5 (pos 0) (omega arith),
-      get_or-take record_width l 6 (pos 0) (omega arith),
-    )
+  row_of_chunk : row_at (take record_width l) ≡ row_at l
+  unfolding row_at
+  row_of_chunk =
+      rw (
+        field_of_chunk 0 (omega arith),
+        field_of_chunk 1 (omega arith),
+        field_of_chunk 3 (omega arith),
+        field_of_chunk 4 (omega arith),
+        field_of_chunk 5 (omega arith),
+        field_of_chunk 6 (omega arith),
+      )
+
+  natural_of_chunk : natural_row (take record_width l) ≡ natural_row l
+  unfolding natural_row
+  natural_of_chunk =
+      rw (
+        field_of_chunk 0 (omega arith),
+        field_of_chunk 1 (omega arith),
+        field_of_chunk 3 (omega arith),
+        field_of_chunk 4 (omega arith),
+        field_of_chunk 5 (omega arith),
+        field_of_chunk 6 (omega arith),
+      )
 
 pub rows_of_chunks : (n : ℕ) (l : List ℤ) → map row_at (first_chunks record_width n l) ≡ rows_of n l
 unfolding rows_of

@@ -14,7 +14,7 @@ use Rattle.token.specs.Layout.{record_width}
 use Rattle.token.specs.Reason.{reason_ok}
 use Rattle.token_file.specs.Rules.{rows_ok, rows_numbers}
 use Rattle.token_file.specs.Format.{version1, file_count, file_rows, bytes_rows, header_width, framed}
-use Rattle.token_file.specs.Fits.{Frames}
+use Rattle.token_file.specs.Fits.{FrameRead}
 use Rattle.token_file.specs.Calls.{read_answer, ReadsFile}
 use Rattle.token_file.specs.declared.layout.Layout.{Layout}
 use Rattle.token_file.specs.declared.read.ReadRefusal.TheVariants as read
@@ -25,7 +25,7 @@ module _ {file : List ℕ} {y : Layout} (e : y ≡ version1) where
   unfolding read_answer
   read_bad_file f = let g : framed version1 file ≡ false = rw e at f in record { answer = rw g; buffer = refl }
 
-  module _ {file' : List ℕ} {y' : Layout} {n : ℕ} (f : Frames y file file' y' n) where
+  module _ {file' : List ℕ} {y' : Layout} {n : ℕ} (f : FrameRead y file file' y' n) where
     right : framed version1 file ≡ true
     right = rw e at f.right
 

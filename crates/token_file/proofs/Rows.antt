@@ -1,4 +1,4 @@
--- For `put_row`, `put_header`, `get_row` and `Framed::of`: one row, or the header, as the code reads and writes it, is what the definition says. By
+-- For `put_row`, `put_header`, `get_row` and `Framed::parse`: one row, or the header, as the code reads and writes it, is what the definition says. By
 -- rewriting, for the offsets of any layout. Assumes nothing.
 use mathlib.Core.Path.{◌≡◌, refl}
 use mathlib.Core.Bool.{Bool, false, ◌&&◌}

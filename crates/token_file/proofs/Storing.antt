@@ -46,9 +46,6 @@ module _ {y : Layout} {rs : List Row} {out : List ℕ} {i : ℕ} {all : List ℕ
 pub record Storing (rs : List Row) (tokens : List ℤ) (i : ℕ) (all : List ℤ) : Type 0 where
   pub rest : sets tokens (i * record_width) (rows_numbers (drop i rs)) ≡ all
 
-pub store_rows_start : (rs : List Row) (tokens : List ℤ) → Storing rs tokens 0 (sets tokens 0 (rows_numbers rs))
-store_rows_start rs tokens = record { rest = refl }
-
 module _ {rs : List Row} {tokens : List ℤ} {i : ℕ} {all : List ℤ} (w : Storing rs tokens i all) where
   pub store_rows_turn : {r : Row} → Next rs i r → {tokens' numbers : List ℤ} → numbers ≡ row_numbers r → tokens' ≡ sets tokens (i * record_width) numbers
       → Storing rs tokens' (i + 1) all

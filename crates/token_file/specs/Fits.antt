@@ -1,5 +1,5 @@
--- Helper definitions, for proofs and inner contracts alone: rows whose numbers have room in a layout, and what the code's parts read and
--- test.
+-- Helper definitions, for proofs and inner contracts alone: rows whose numbers have room in a layout, and what the code's parts read
+-- and test.
 use Rattle.std.specs.Prelude.{◌≡◌, Bool, true, not, ◌&&◌, List, [], ◌∷◌, ℕ, ◌+◌, ◌<◌, ◌^◌, eqb, ℤ, drop}
 use Rattle.std.specs.Simd.{first_chunks}
 use Rattle.base.specs.Choice.{pick}
@@ -47,10 +47,10 @@ abbrev pub all_natural : List (List ℤ) → Bool
 all_natural [] = true
 all_natural (r ∷ rs) = natural_row r && all_natural rs
 
--- the first records of a slice, each a list of its own, that keep the rules
-pub record Kept (records : List ℤ) (count : ℕ) (kept : List (List ℤ)) : Type 0 where
+-- the first records of a slice, each a list of its own, where the slice has so many and they keep the rules
+pub record CheckedRecords (records : List ℤ) (count : ℕ) (checked : List (List ℤ)) : Type 0 where
   pub rules : records_ok records count ≡ true
-  pub are : kept ≡ first_chunks record_width count records
+  pub are : checked ≡ first_chunks record_width count records
 
 -- where the numbers of a row that begins at a place begin
 abbrev pub offsets : Layout → ℕ → Offsets
@@ -64,8 +64,8 @@ offsets y at =
       column = at + y.kind + y.reason + y.start + y.end + y.line;
     }
 
--- what a file with a right frame gives: itself, its layout and its count
-pub record Frames (y : Layout) (file file' : List ℕ) (y' : Layout) (count : ℕ) : Type 0 where
+-- what reading the frame of a file gives, where it is right: the file, its layout and its count
+pub record FrameRead (y : Layout) (file file' : List ℕ) (y' : Layout) (count : ℕ) : Type 0 where
   pub right : framed y file ≡ true
   pub same_file : file' ≡ file
   pub same_layout : y' ≡ y

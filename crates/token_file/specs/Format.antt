@@ -26,7 +26,17 @@ unlittle (b ∷ bs) = b + 256 * unlittle bs
 -- version 1, in bytes; a `Layout` of the code has the version and how many bytes each number of a `Row` has: kind, reason, start, end, line, column;
 -- `narrow` says that each of the six has at most seven
 unfoldable pub version1 : Layout
-version1 = record { version = 1; kind = 1; reason = 1; start = 4; end = 4; line = 4; column = 2; narrow = (lit≤ tt, lit≤ tt, lit≤ tt, lit≤ tt, lit≤ tt, lit≤ tt) }
+version1 =
+    record {
+      version = 1;
+      kind = 1;
+      reason = 1;
+      start = 4;
+      end = 4;
+      line = 4;
+      column = 2;
+      narrow = (lit≤ tt, lit≤ tt, lit≤ tt, lit≤ tt, lit≤ tt, lit≤ tt);
+    }
 
 -- how many bytes a token has
 unfoldable pub row_width : Layout → ℕ

@@ -5,7 +5,7 @@ ghost use Rattle.std.specs.Prelude.{◌≡◌, ◌+◌, ◌≤◌, ◌<◌, ◌^
 pub const HEADER_WIDTH: usize = 9;
 
 // How many bytes each kept number of a token has, in the file's order.
-#[derive(Clone, Copy)]
+#[derive(Clone, Copy, PartialEq, Eq, Debug)]
 pub struct Layout {
     pub version: usize,
     pub kind: usize,
@@ -20,7 +20,7 @@ pub struct Layout {
 
 // Where the numbers of a row begin in a file.
 #[derive(Clone, Copy)]
-pub struct Offsets {
+pub(crate) struct Offsets {
     pub kind: usize,
     pub reason: usize,
     pub start: usize,
@@ -67,7 +67,7 @@ impl Layout {
 
     // Where the numbers of the row at `at` begin.
     #[tactic(auto, unfolding(crate::specs::Format::row_width))]
-    pub fn offsets(self, at: usize) -> Offsets
+    pub(crate) fn offsets(self, at: usize) -> Offsets
         requires { at + row_width self < 2 ^ 64 }
         ensures { result ≡ offsets self at }
     {

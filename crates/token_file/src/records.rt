@@ -2,11 +2,14 @@
 ghost use Rattle.std.specs.Prelude.{◌≡◌, ◌&&◌, MatchOption, false, map};
 ghost use Rattle.token.specs.Reason.{reason_ok};
 ghost use Rattle.token_file.specs.Rules.{row_at, rows_ok, largest_column, some_above};
-ghost use Rattle.token_file.specs.Fits.{all_natural, Kept};
+ghost use Rattle.token_file.specs.Fits.{all_natural, CheckedRecords};
 ghost use Rattle.token_file.specs.Calls.{records_ok};
 
 use crate::row::Row;
 use token::layout::RECORD_WIDTH;
+
+// Where a record has its column.
+const COLUMN: usize = 6;
 
 // The largest column that 16 bits hold.
 const LARGEST_COLUMN: i64 = 65535;
@@ -29,8 +32,8 @@ fn rules_hold(records: &[[i64; RECORD_WIDTH]]) -> bool
 }
 
 // The first `count` records, unless the slice has fewer or they break the rules.
-pub fn kept(records: &[i64], count: usize) -> Option<&[[i64; RECORD_WIDTH]]>
-    ensures { MatchOption result (records_ok records.now count ≡ false) (λ r. Kept records.now count r.now) }
+pub fn checked(records: &[i64], count: usize) -> Option<&[[i64; RECORD_WIDTH]]>
+    ensures { MatchOption result (records_ok records.now count ≡ false) (λ r. CheckedRecords records.now count r.now) }
 {
     let (all, _) = records.as_chunks::<RECORD_WIDTH>();
     if all.len() < count {
@@ -47,8 +50,5 @@ pub fn kept(records: &[i64], count: usize) -> Option<&[[i64; RECORD_WIDTH]]>
 pub fn some_long_column(records: &[[i64; RECORD_WIDTH]]) -> bool
     ensures { result ≡ some_above largest_column (map row_at records.now) }
 {
-    records.iter().any(|record| {
-        let [_, _, _, _, _, _, column, ..] = *record;
-        LARGEST_COLUMN < column
-    })
+    records.iter().any(|record| LARGEST_COLUMN < record[COLUMN])
 }

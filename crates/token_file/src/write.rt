@@ -69,6 +69,7 @@ fn put_rows(out: &mut [u8], y: Layout, records: &[[i64; RECORD_WIDTH]])
     ensures { out.new ≡ sets out.old header_width (rows_bytes y (map row_at records.now)) }
 {
     for (i, record) in records.iter().enumerate() {
+        // No number is below 0, since the records are checked.
         let Ok(row) = Row::try_from(record) else {
             unreachable!();
         };
@@ -84,7 +85,7 @@ pub fn write_token_file(
 ) -> Result<usize, WriteRefusal>
     ensures { WritesFile records.now count out.old result out.new }
 {
-    let Some(records) = records::kept(records, count) else {
+    let Some(records) = records::checked(records, count) else {
         return Err(WriteRefusal::BadRecords);
     };
     if records::some_long_column(records) {

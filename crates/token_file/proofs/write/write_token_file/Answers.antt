@@ -1,7 +1,7 @@
 -- `write_token_file` answers as `write_answer` says and leaves the buffer that it says: a law for each answer. Assumes nothing.
 use mathlib.Core.Path.{sym, ◌∙◌}
 use native.Mathlib.Omega.{arith}
-use Rattle.token_file.proofs.Writing.{width1, kept_length, kept_natural, kept_slice, write_bad, write_long, write_no_room, write_all}
+use Rattle.token_file.proofs.Writing.{width1, checked_length, checked_natural, checked_slice, write_bad, write_long, write_no_room, write_all}
 use Rattle.token_file.proofs.write.write_token_file.Goals as goal
 
 pub returns-in_default : goal.returns-in_default
@@ -11,7 +11,7 @@ pub returns-then-some_long_column : goal.returns-then-some_long_column
 returns-then-some_long_column c = write_long c.in-Some.ensures (sym c.some_long_column.ensures ∙ c.if-some_long_column.true)
 
 pub file_width-size-requires : goal.file_width-size-requires
-file_width-size-requires c = omega (arith, width1 c.args.count c.version1-y.ensures, kept_slice c.in-Some.ensures, c.well_formed)
+file_width-size-requires c = omega (arith, width1 c.args.count c.version1-y.ensures, checked_slice c.in-Some.ensures, c.well_formed)
 
 pub returns-then-out-size : goal.returns-then-out-size
 returns-then-out-size c =
@@ -23,10 +23,10 @@ put_header-requires c = omega (arith, width1 c.args.count c.version1-y.ensures, 
 
 pub put_rows-requires-clause-room : goal.put_rows-requires-clause-room
 put_rows-requires-clause-room c =
-    rw (kept_length c.in-Some.ensures) (omega (arith, c.put_header.auto.out, c.file_width-size.ensures, c.if-out-size.false))
+    rw (checked_length c.in-Some.ensures) (omega (arith, c.put_header.auto.out, c.file_width-size.ensures, c.if-out-size.false))
 
 pub put_rows-requires-clause-natural : goal.put_rows-requires-clause-natural
-put_rows-requires-clause-natural c = kept_natural c.in-Some.ensures
+put_rows-requires-clause-natural c = checked_natural c.in-Some.ensures
 
 pub returns : goal.returns
 returns c =

@@ -1,8 +1,8 @@
--- `of` gives the file where `framed` is true: the same tests in the same order. Assumes nothing.
+-- `parse` gives the file where `framed` is true: the same tests in the same order. Assumes nothing.
 use mathlib.Core.Path.{refl}
 use Rattle.token_file.specs.Format.{file_count}
 use Rattle.token_file.proofs.Rows.{file_fits, short_framed, framed_is}
-use Rattle.token_file.proofs.read.Framed.of.Goals as goal
+use Rattle.token_file.proofs.read.Framed.parse.Goals as goal
 
 pub returns-then-file-lt-HEADER_WIDTH : goal.returns-then-file-lt-HEADER_WIDTH
 returns-then-file-lt-HEADER_WIDTH c = search short_framed

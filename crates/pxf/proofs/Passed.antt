@@ -5,22 +5,23 @@ use mathlib.Core.Path.{◌≡◌}
 use mathlib.Core.List.{List}
 use Prim.Native.Nat.{ℕ}
 use lib.IntN.{ℤ}
+use Rattle.std.specs.Prelude.{Result}
 use Rattle.token_file.specs.Calls.{WritesFile, ReadsFile, written_number, written_value, loaded_number, loaded_value}
-use Rattle.token_file.specs.declared.write.Written.{Written}
-use Rattle.token_file.specs.declared.read.Loaded.{Loaded}
+use Rattle.token_file.specs.declared.write.WriteRefusal.{WriteRefusal}
+use Rattle.token_file.specs.declared.read.ReadRefusal.{ReadRefusal}
 use Rattle.suggest.specs.Calls.{suggested_number, suggested_value, SuggestsDurations}
 use Rattle.suggest.specs.declared.call.Refusal.{Refusal}
 use Rattle.pxf.specs.Answers.{one_value}
 use Rattle.pxf.specs.Suggestions.{SuggestionsGiven}
 use Rattle.pxf.specs.TokenFiles.{FileWritten, FileRead}
 
-pub file_written : {records : List ℤ} {count : ℕ} {out out' : List ℕ} {r : Written} → WritesFile records count out r out' → {n v : ℕ} {a : List ℤ}
+pub file_written : {records : List ℤ} {count : ℕ} {out out' : List ℕ} {r : Result ℕ WriteRefusal} → WritesFile records count out r out' → {n v : ℕ} {a : List ℤ}
     → n ≡ written_number r → v ≡ written_value r → a ≡ one_value v → FileWritten records count out n out' a
 file_written w en ev ea =
     let e = w.answer in
     record { number = rw e at en; answer = rw (ev, e) at ea; buffer = rw e at w.buffer }
 
-pub file_read : {file : List ℕ} {tokens tokens' : List ℤ} {r : Loaded} → ReadsFile file tokens r tokens' → {n v : ℕ} {a : List ℤ}
+pub file_read : {file : List ℕ} {tokens tokens' : List ℤ} {r : Result ℕ ReadRefusal} → ReadsFile file tokens r tokens' → {n v : ℕ} {a : List ℤ}
     → n ≡ loaded_number r → v ≡ loaded_value r → a ≡ one_value v → FileRead file tokens n tokens' a
 file_read w en ev ea =
     let e = w.answer in

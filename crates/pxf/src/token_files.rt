@@ -14,8 +14,8 @@ pub extern "C" fn pxf_write_token_file(
     ensures { FileWritten records.now count out.old result out.new answer.new }
 {
     let r = token_file::write::write_token_file(records, count as usize, out);
-    answer::set_one(answer, r.value());
-    r.number()
+    answer::set_one(answer, base::answer::value(r));
+    base::answer::number(r)
 }
 
 // Reads a token file: `answer` gets the count of tokens.
@@ -24,6 +24,6 @@ pub extern "C" fn pxf_read_token_file(file: &[u8], tokens: &mut [i64], answer: &
     ensures { FileRead file.now tokens.old result tokens.new answer.new }
 {
     let r = token_file::read::read_token_file(file, tokens);
-    answer::set_one(answer, r.value());
-    r.number()
+    answer::set_one(answer, base::answer::value(r));
+    base::answer::number(r)
 }

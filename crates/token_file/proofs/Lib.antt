@@ -1,5 +1,5 @@
 mod Numbers
-pub mod Signs
+mod Signs
 mod Rows
 mod Pieces
 mod Judging

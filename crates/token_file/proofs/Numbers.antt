@@ -3,7 +3,7 @@
 use mathlib.Core.Path.{◌≡◌, refl, ap}
 use mathlib.Core.List.{List, [], ◌∷◌}
 use Prim.Native.Nat.{ℕ, zero, suc, ◌+◌, ◌*◌, ◌/◌, ◌%◌, ◌^◌, ◌≤◌, ◌<◌, ◌-◌}
-use native.Mathlib.Nat.{pow-succ', pow-zero, pow-le-pow_right, add-zero, sub-zero}
+use native.Mathlib.Nat.{pow-succ', pow-zero, pow-le-pow_right}
 use native.Mathlib.Omega.{arith}
 use lib.ListN.{length, get_or, take, drop, set}
 use lib.Seq.{sets, drop-cons, get_or-drop}
@@ -49,69 +49,57 @@ below_63 h s = omega (arith, pow-le-pow_right {n = 256} (omega arith) {j = 7} h)
 
 -- ---- the loop that writes a number: the bytes that are left, stored from here on, make the whole
 
-module _ (out : List ℕ) (at width k rest : ℕ) where
+module _ (out : List ℕ) (end i rest : ℕ) where
   abbrev pub putting : List ℕ
-  putting = sets out (at + k) (little (width - k) rest)
+  putting = sets out i (little (end - i) rest)
 
-pub put_start : (out : List ℕ) (at width n : ℕ) → putting out at width 0 n ≡ sets out at (little width n)
-put_start out at width n = simp (add-zero, sub-zero)
-
-pub put_turn : (out : List ℕ) (at width k rest : ℕ) → k < width
-    → putting (set out (at + k) (rest % 256)) at width (k + 1) (rest / 256) ≡ putting out at width k rest
+pub put_turn : (out : List ℕ) (end i rest : ℕ) → i < end → putting (set out i (rest % 256)) end (i + 1) (rest / 256) ≡ putting out end i rest
 unfolding little
-put_turn out at width k rest h =
-    let e₁ : width - k ≡ suc (width - (k + 1)) = omega arith in
-    let e₂ : at + (k + 1) ≡ suc (at + k) = omega arith in
+put_turn out end i rest h =
+    let e₁ : end - i ≡ suc (end - (i + 1)) = omega arith in
+    let e₂ : i + 1 ≡ suc i = omega arith in
     rw (e₁, e₂)
 
-pub put_end : (out : List ℕ) (at width k rest : ℕ) → width ≤ k → putting out at width k rest ≡ out
+pub put_end : (out : List ℕ) (end i rest : ℕ) → end ≤ i → putting out end i rest ≡ out
 unfolding little
-put_end out at width k rest h = let e : width - k ≡ 0 = omega arith in rw e
+put_end out end i rest h = let e : end - i ≡ 0 = omega arith in rw e
 
 -- ---- the loop that reads a number: from the highest byte down
 
-module _ (file : List ℕ) (at width k n : ℕ) where
-  -- the number of the bytes from k on, and its bound
-  pub record Getting : Type 0 where
-    pub inside : k ≤ width
-    pub value : n ≡ number_at file (at + k) (width - k)
-    pub small : n < 256 ^ (width - k)
+-- the number of the bytes from i on, and its bound
+pub record Getting (file : List ℕ) (at end i n : ℕ) : Type 0 where
+  pub inside : at ≤ i
+  pub value : n ≡ number_at file i (end - i)
+  pub small : n < 256 ^ (end - i)
 
 number_cons : (l : List ℕ) (i w : ℕ) → i < length l → number_at l i (suc w) ≡ get_or l i 0 + 256 * number_at l (suc i) w
 unfolding unlittle
 number_cons l i w h = rw (drop-cons l i 0 h)
 
-pub get_start : (file : List ℕ) (at width : ℕ) → Getting file at width width 0
+pub get_start : (file : List ℕ) (at end : ℕ) → at ≤ end → Getting file at end end 0
 unfolding unlittle
-get_start file at width =
-    let e : width - width ≡ 0 = omega arith in
-    record { inside = omega arith; value = rw e; small = rw e (omega (arith, pow-zero 256)) }
+get_start file at end h =
+    let e : end - end ≡ 0 = omega arith in
+    record { inside = h; value = rw e; small = rw e (omega (arith, pow-zero 256)) }
 
-module _ {file : List ℕ} {at width k n : ℕ} (w : Getting file at width k n) where
-  -- the next number fits as long as the width is at most eight bytes
-  pub get_fits : 0 < k → width ≤ 8 → n * 256 + 255 < 2 ^ 64
+module _ {file : List ℕ} {at end i n : ℕ} (w : Getting file at end i n) where
+  -- the next number fits as long as there are at most eight bytes
+  pub get_fits : at < i → end ≤ at + 8 → n * 256 + 255 < 2 ^ 64
   get_fits h m =
       let s = w.small in
-      let p : 256 ^ (width - k) ≤ 256 ^ 7 = pow-le-pow_right (omega arith) {j = 7} (omega (arith, w.inside)) in
+      let p : 256 ^ (end - i) ≤ 256 ^ 7 = pow-le-pow_right (omega arith) {j = 7} (omega arith) in
       omega arith
 
-  pub get_turn : 0 < k → at + width ≤ length file → (b : ℕ) → b ≡ get_or file (at + (k - 1)) 0 → b < 256 → Getting file at width (k - 1) (n * 256 + b)
-  get_turn h r b eb hb =
-      let i = w.inside in
+  pub get_turn : at < i → i ≤ end → end ≤ length file → (b : ℕ) → b ≡ get_or file (i - 1) 0 → b < 256 → Getting file at end (i - 1) (n * 256 + b)
+  get_turn h le r b eb hb =
       let v = w.value in
       let s = w.small in
-      let e₁ : width - (k - 1) ≡ suc (width - k) = omega arith in
-      let e₂ : suc (at + (k - 1)) ≡ at + k = omega arith in
-      let q : number_at file (at + (k - 1)) (suc (width - k)) ≡ get_or file (at + (k - 1)) 0 + 256 * number_at file (at + k) (width - k) =
-      rw e₂ at (number_cons file (at + (k - 1)) (width - k) (omega arith)) in
+      let e₁ : end - (i - 1) ≡ suc (end - i) = omega arith in
+      let e₂ : suc (i - 1) ≡ i = omega arith in
+      let q : number_at file (i - 1) (suc (end - i)) ≡ get_or file (i - 1) 0 + 256 * number_at file i (end - i) =
+      rw e₂ at (number_cons file (i - 1) (end - i) (omega arith)) in
       record {
         inside = omega arith;
         value = rw e₁ (omega (arith, q));
-        small = rw e₁ (omega (arith, pow-succ' 256 (width - k)));
+        small = rw e₁ (omega (arith, pow-succ' 256 (end - i)));
       }
-
-  pub get_end : k ≤ 0 → (n ≡ number_at file at width) × (n < 256 ^ width)
-  get_end h =
-      let e₁ : at + k ≡ at = omega arith in
-      let e₂ : width - k ≡ width = omega arith in
-      (rw (e₁, e₂) at w.value, rw e₂ at w.small)

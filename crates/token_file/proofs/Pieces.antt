@@ -1,43 +1,103 @@
--- For the loops over rows and the round trips: the rows of a list from a place on are the row there and the rows from the next place on. And how long
--- what is made of rows is. By induction on the count or the rows. Any layout. Assumes nothing.
-use mathlib.Core.Path.{◌≡◌, refl, ap, ◌∙◌}
-use mathlib.Core.Bool.{◌&&◌}
-use mathlib.Core.List.{List, [], ◌∷◌}
-use Prim.Native.Nat.{ℕ, zero, suc, ◌+◌, ◌-◌, ◌*◌, ◌<◌}
-use native.Mathlib.Nat.{not-suc-le-zero, mul-suc}
+-- For the loops over rows and the round trips: the next of the rows that are left, the rows of a slice as those of its records, and how long what is made
+-- of rows is. By induction on the count or the rows. Any layout. Assumes nothing.
+use mathlib.Core.Path.{◌≡◌, refl, ap}
+use mathlib.Core.List.{List, [], ◌∷◌, map}
+use Prim.Native.Nat.{ℕ, zero, suc, ◌+◌, ◌*◌, ◌≤◌, ◌<◌}
+use native.Mathlib.Nat.{not-suc-le-zero, mul-suc, mul-le-mul_left}
 use native.Mathlib.Omega.{arith}
-use lib.IntN.{ℤ}
-use lib.ListN.{length, drop, length-append}
+use lib.IntN.{ℤ, pos}
+use lib.ListN.{length, get_or, take, drop, length-append}
 use lib.Seq.{drop-drop}
+use Rattle.std.specs.Simd.{first_chunks}
+use Rattle.std.proofs.lemmas.List.{drop-map, at_drop_more, get_or-take}
 use Rattle.token.specs.Layout.{record_width}
-use Rattle.token_file.specs.Rules.{row_at, rows_of, natural_row, natural_rows, row_numbers, rows_numbers}
-use Rattle.token_file.specs.Format.{row_width, row_bytes, rows_bytes, bytes_row, bytes_rows}
+use Rattle.token_file.specs.Rules.{field_at, row_at, rows_of, natural_row, natural_rows, row_numbers, rows_numbers}
+use Rattle.token_file.specs.Format.{header_width, row_width, row_bytes, rows_bytes, file_width, bytes_row, bytes_rows}
+use Rattle.token_file.specs.Fits.{all_natural}
 use Rattle.token_file.specs.declared.row.Row.{Row}
 use Rattle.token_file.specs.declared.layout.Layout.{Layout}
 use Rattle.token_file.proofs.Numbers.{length_little}
 
--- ---- a list that is taken apart in pieces of w elements
+-- ---- the next row
 
-module _ {A B : Type 0} (f : ℕ → List A → B) (g : List A → B → B) (w : ℕ) (step : (n : ℕ) (l : List A) → f (suc n) l ≡ g l (f n (drop w l))) where
-  turn : (l : List A) (at left : ℕ) → 0 < left → f left (drop at l) ≡ g (drop at l) (f (left - 1) (drop (at + w) l))
-  turn l at zero h = absurd (not-suc-le-zero h)
-  turn l at (suc n) h =
-      let e : suc n - 1 ≡ n = omega arith in
-      rw e (step n (drop at l) ∙ ap (λ (m : List A). g (drop at l) (f n m)) (drop-drop w at l))
+-- the row at i, and those after it
+abbrev pub Next : List Row → ℕ → Row → Type 0
+Next rs i r = drop i rs ≡ r ∷ drop (i + 1) rs
 
-pub rows_turn : (l : List ℤ) (at left : ℕ) → 0 < left → rows_of left (drop at l) ≡ row_at (drop at l) ∷ rows_of (left - 1) (drop (at + record_width) l)
-unfolding rows_of
-rows_turn = turn rows_of (λ l rs. row_at l ∷ rs) record_width (λ n l. refl)
+pub next_record : (l : List (List ℤ)) (i : ℕ) {r : Row} → i < length l → r ≡ row_at (get_or l i []) → Next (map row_at l) i r
+next_record l i h e = rw (drop-map row_at i l, drop-map row_at (i + 1) l, e) (at_drop_more (map row_at) l i [] h)
 
-pub natural_turn : (l : List ℤ) (at left : ℕ) → 0 < left
-    → natural_rows left (drop at l) ≡ natural_row (drop at l) && natural_rows (left - 1) (drop (at + record_width) l)
-unfolding natural_rows
-natural_turn = turn natural_rows (λ l b. natural_row l && b) record_width (λ n l. refl)
-
-pub bytes_turn : (y : Layout) (l : List ℕ) (at left : ℕ) → 0 < left
-    → bytes_rows y left (drop at l) ≡ bytes_row y (drop at l) ∷ bytes_rows y (left - 1) (drop (at + row_width y) l)
+next_of_bytes : (y : Layout) (n i : ℕ) (l : List ℕ) → i < n → Next (bytes_rows y n l) i (bytes_row y (drop (row_width y * i) l))
 unfolding bytes_rows
-bytes_turn y = turn (bytes_rows y) (λ l rs. bytes_row y l ∷ rs) (row_width y) (λ n l. refl)
+next_of_bytes y zero i l h = absurd (not-suc-le-zero h)
+next_of_bytes y (suc n) zero l h = let e : row_width y * 0 ≡ 0 = omega arith in rw e
+next_of_bytes y (suc n) (suc i) l h =
+    let e : suc i + 1 ≡ suc (i + 1) = omega arith in
+    let m : row_width y * suc i ≡ row_width y + row_width y * i = omega (arith, mul-suc (row_width y) i) in
+    rw (e, m) (rw drop-drop at (next_of_bytes y n i (drop (row_width y) l) (omega arith)))
+
+pub next_in_file : (y : Layout) (file : List ℕ) (n i : ℕ) {r : Row} → i < n → r ≡ bytes_row y (drop (file_width y i) file)
+    → Next (bytes_rows y n (drop header_width file)) i r
+unfolding file_width
+next_in_file y file n i h e = rw e (rw drop-drop at (next_of_bytes y n i (drop header_width file) h))
+
+-- there is room for it
+pub row_inside : (y : Layout) (n i : ℕ) → i < n → file_width y (i + 1) ≤ file_width y n
+unfolding file_width
+row_inside y n i h = omega (arith, mul-le-mul_left (row_width y) h)
+
+pub next_width : (y : Layout) (i : ℕ) → file_width y (i + 1) ≡ file_width y i + row_width y
+unfolding file_width
+next_width y i = let e : i + 1 ≡ suc i = omega arith in rw e (omega (arith, mul-suc (row_width y) i))
+
+-- ---- the records of a slice
+
+module _ (l : List ℤ) where
+  field_of_chunk : (k : ℕ) → k < record_width → field_at (take record_width l) k ≡ field_at l k
+  field_of_chunk k h = get_or-take record_width l k (pos 0) h
+
+  row_of_chunk : row_at (take record_width l) ≡ row_at l
+  unfolding row_at
+  row_of_chunk =
+      rw (
+        field_of_chunk 0 (omega arith),
+        field_of_chunk 1 (omega arith),
+        field_of_chunk 3 (omega arith),
+        field_of_chunk 4 (omega arith),
+        field_of_chunk 5 (omega arith),
+        field_of_chunk 6 (omega arith),
+      )
+
+  natural_of_chunk : natural_row (take record_width l) ≡ natural_row l
+  unfolding natural_row
+  natural_of_chunk =
+      rw (
+        field_of_chunk 0 (omega arith),
+        field_of_chunk 1 (omega arith),
+        field_of_chunk 3 (omega arith),
+        field_of_chunk 4 (omega arith),
+        field_of_chunk 5 (omega arith),
+        field_of_chunk 6 (omega arith),
+      )
+
+pub rows_of_chunks : (n : ℕ) (l : List ℤ) → map row_at (first_chunks record_width n l) ≡ rows_of n l
+unfolding rows_of
+rows_of_chunks zero l = refl
+rows_of_chunks (suc n) l = rw (row_of_chunk l, rows_of_chunks n (drop record_width l))
+
+pub natural_chunks : (n : ℕ) (l : List ℤ) → all_natural (first_chunks record_width n l) ≡ natural_rows n l
+unfolding natural_rows
+natural_chunks zero l = refl
+natural_chunks (suc n) l = rw (natural_of_chunk l, natural_chunks n (drop record_width l))
+
+pub chunks_length : (n : ℕ) (l : List ℤ) → length (first_chunks record_width n l) ≡ n
+chunks_length zero l = refl
+chunks_length (suc n) l = ap suc (chunks_length n (drop record_width l))
+
+pub chunks_first : (n m : ℕ) (l : List ℤ) → n ≤ m → take n (first_chunks record_width m l) ≡ first_chunks record_width n l
+chunks_first zero m l h = refl
+chunks_first (suc n) zero l h = absurd (not-suc-le-zero h)
+chunks_first (suc n) (suc m) l h = ap (λ (c : List (List ℤ)). take record_width l ∷ c) (chunks_first n m (drop record_width l) (omega arith))
 
 -- ---- how much there is
 
@@ -64,8 +124,3 @@ rows_bytes_length y (r ∷ rs) =
 pub numbers_length : (rs : List Row) → length (rows_numbers rs) ≡ length rs * record_width
 numbers_length [] = omega arith
 numbers_length (r ∷ rs) = omega (arith, length-append (row_numbers r) (rows_numbers rs), numbers_length rs)
-
--- one piece of the rows that are left
-pub width_turn : (w left : ℕ) → 0 < left → w * left ≡ w * (left - 1) + w
-width_turn w zero h = absurd (not-suc-le-zero h)
-width_turn w (suc n) h = let e : suc n - 1 ≡ n = omega arith in rw e (omega (arith, mul-suc w n))

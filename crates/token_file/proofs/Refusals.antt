@@ -7,6 +7,7 @@ use mathlib.Core.List.{List}
 use Prim.Native.Nat.{ℕ, ◌*◌, ◌≤◌, ◌<◌}
 use native.Mathlib.Omega.{arith}
 use lib.Dec.{ltb}
+use Rattle.std.specs.Prelude.{Ok, Err}
 use lib.IntN.{ℤ}
 use borrow.Author.Tests.{ltb-true, ltb-false, lt-ltb, le-ltb, not-true, not-false}
 use Rattle.base.specs.Choice.{pick}
@@ -15,8 +16,8 @@ use Rattle.token.specs.Reason.{reason_ok}
 use Rattle.token_file.specs.Rules.{rows_of, rows_ok, largest_column, some_above}
 use Rattle.token_file.specs.Format.{version1, file_width, file_count, file_rows, framed}
 use Rattle.token_file.specs.Calls.{records_ok, write_answer, read_answer, written_number, loaded_number}
-use Rattle.token_file.specs.declared.write.Written.TheVariants as written
-use Rattle.token_file.specs.declared.read.Loaded.TheVariants as loaded
+use Rattle.token_file.specs.declared.write.WriteRefusal.TheVariants as write
+use Rattle.token_file.specs.declared.read.ReadRefusal.TheVariants as read
 
 -- ---- three tests in a row, each with a number of its own where it fails
 
@@ -73,7 +74,7 @@ module _ (records : List ℤ) (count room : ℕ) where
   write_number = go ok long short (file_width version1 count)
     where
       go : (a b d : Bool) (n : ℕ)
-          → written_number (pick a (pick b written.LongColumn (pick d written.NoRoom (written.Bytes n))) written.BadRecords)
+          → written_number (pick a (pick b (Err write.LongColumn) (pick d (Err write.NoRoom) (Ok n))) (Err write.BadRecords))
           ≡ first 8 9 10 (not a) b d
       go false b d n = refl
       go true true d n = refl
@@ -127,7 +128,7 @@ module _ (file : List ℕ) (room : ℕ) where
   read_number = go right kept narrow (file_count file)
     where
       go : (a b d : Bool) (n : ℕ)
-          → loaded_number (pick a (pick b (pick d loaded.NoRoom (loaded.Count n)) loaded.BadRecords) loaded.BadFile)
+          → loaded_number (pick a (pick b (pick d (Err read.NoRoom) (Ok n)) (Err read.BadRecords)) (Err read.BadFile))
           ≡ first 7 8 4 (not a) (not b) d
       go false b d n = refl
       go true false d n = refl

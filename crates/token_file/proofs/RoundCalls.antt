@@ -6,6 +6,7 @@ use mathlib.Core.List.{List, ◌++◌}
 use Prim.Native.Nat.{ℕ, ◌*◌, ◌≤◌}
 use native.Mathlib.Omega.{arith}
 use lib.Dec.{ltb}
+use Rattle.std.specs.Prelude.{Result, Ok}
 use lib.IntN.{ℤ}
 use lib.ListN.{length, take, drop, length-append}
 use lib.Seq.{take_at}
@@ -19,10 +20,8 @@ use Rattle.token_file.specs.Rules.{rows_of, natural_rows, rows_numbers, rows_ok,
 use Rattle.token_file.specs.Format.{version1, file_of, file_width, file_count, file_rows, framed}
 use Rattle.token_file.specs.Calls.{records_ok, write_answer, read_answer, WritesFile, ReadsFile}
 use Rattle.token_file.specs.declared.row.Row.{Row}
-use Rattle.token_file.specs.declared.write.Written.{Written}
-use Rattle.token_file.specs.declared.write.Written.TheVariants as written
-use Rattle.token_file.specs.declared.read.Loaded.{Loaded}
-use Rattle.token_file.specs.declared.read.Loaded.TheVariants as loaded
+use Rattle.token_file.specs.declared.write.WriteRefusal.{WriteRefusal}
+use Rattle.token_file.specs.declared.read.ReadRefusal.{ReadRefusal}
 use Rattle.token_file.proofs.Pieces.{rows_length, numbers_length, bytes_rows_length}
 use Rattle.token_file.proofs.Frames.{framed_plain, file_length}
 use Rattle.token_file.proofs.RulesPlain.{rows_test, records_plain, count_small}
@@ -38,7 +37,7 @@ pub record Accepted (records : List ℤ) (count room n : ℕ) : Type 0 where
   pub width : n ≡ file_width version1 count
   pub inside : n ≤ room
 
-pub write_accepted : (records : List ℤ) (count room n : ℕ) → written.Bytes n ≡ write_answer records count room → Accepted records count room n
+pub write_accepted : (records : List ℤ) (count room n : ℕ) → Ok n ≡ write_answer records count room → Accepted records count room n
 unfolding write_answer
 write_accepted records count room n e =
     let a = pick_first (records_ok records count) (λ p. zero_one (cc)) (sym e) in
@@ -53,7 +52,7 @@ pub record Taken (file : List ℕ) (room n : ℕ) : Type 0 where
   pub count : n ≡ file_count file
   pub inside : n * record_width ≤ room
 
-pub read_accepted : (file : List ℕ) (room n : ℕ) → loaded.Count n ≡ read_answer file room → Taken file room n
+pub read_accepted : (file : List ℕ) (room n : ℕ) → Ok n ≡ read_answer file room → Taken file room n
 unfolding read_answer
 read_accepted file room n e =
     let a = pick_first (framed version1 file) (λ p. zero_one (cc)) (sym e) in
@@ -69,7 +68,7 @@ module _ (records : List ℤ) (count : ℕ) where
   kept_rules k = (records_plain records count k).rows
 
   pub read_back : records_ok records count ≡ true → some_above largest_column (rows_of count records) ≡ false → (room : ℕ) → count * record_width ≤ room
-      → read_answer (file_of version1 (rows_of count records)) room ≡ loaded.Count count
+      → read_answer (file_of version1 (rows_of count records)) room ≡ Ok count
   unfolding read_answer
   read_back k s room h =
       let rs = rows_of count records in
@@ -79,16 +78,16 @@ module _ (records : List ℤ) (count : ℕ) where
       rw (file_framed1 w, file_rows1 reason_below w s, rows_test reason_ok w, c, le-ltb room (count * record_width) h)
 
 -- the six kept numbers come back, with 0 for the others, and the rest of the buffer is untouched
-pub reading_written : (records : List ℤ) (count : ℕ) (out out' : List ℕ) (r : Written) (n : ℕ) → WritesFile records count out r out' → r ≡ written.Bytes n
-    → (tokens tokens' : List ℤ) (q : Loaded) → ReadsFile (take n out') tokens q tokens' → count * record_width ≤ length tokens
-    → (q ≡ loaded.Count count) × (tokens' ≡ overlay (rows_numbers (rows_of count records)) tokens)
+pub reading_written : (records : List ℤ) (count : ℕ) (out out' : List ℕ) (r : Result ℕ WriteRefusal) (n : ℕ) → WritesFile records count out r out' → r ≡ Ok n
+    → (tokens tokens' : List ℤ) (q : Result ℕ ReadRefusal) → ReadsFile (take n out') tokens q tokens' → count * record_width ≤ length tokens
+    → (q ≡ Ok count) × (tokens' ≡ overlay (rows_numbers (rows_of count records)) tokens)
 reading_written records count out out' r n w e tokens tokens' q v h =
     let a = write_accepted records count (length out) n (sym e ∙ w.answer) in
     let rs = rows_of count records in
     let o : out' ≡ overlay (file_of version1 rs) out = rw e at w.buffer in
     let l : length (file_of version1 rs) ≡ n = file_length version1 rs ∙ ap (file_width version1) (rows_length count records) ∙ sym a.width in
     let f : take n out' ≡ file_of version1 rs = rw o (take_at (file_of version1 rs) (drop (length (file_of version1 rs)) out) n l) in
-    let g : q ≡ loaded.Count count = v.answer ∙ rw f (read_back records count a.rules a.columns (length tokens) h) in
+    let g : q ≡ Ok count = v.answer ∙ rw f (read_back records count a.rules a.columns (length tokens) h) in
     let b : tokens' ≡ overlay (rows_numbers (file_rows version1 (take n out'))) tokens = rw g at v.buffer in
     (g, b ∙ rw (f, file_rows1 reason_below (kept_rules records count a.rules) a.columns))
 
@@ -122,22 +121,22 @@ module _ (file : List ℕ) (b : AreBytes file) (f : framed version1 file ≡ tru
         omega (arith, length-append (rows_numbers rs) rest, numbers_length rs, rs_length) in
         rw (le-leb (file_count file * record_width) (length (rows_numbers rs ++ rest)) l, n, rows_again, k)
 
-    pub write_back : (room : ℕ) → length file ≤ room → write_answer (rows_numbers rs ++ rest) (file_count file) room ≡ written.Bytes (length file)
+    pub write_back : (room : ℕ) → length file ≤ room → write_answer (rows_numbers rs ++ rest) (file_count file) room ≡ Ok (length file)
     unfolding write_answer
     write_back room h =
         let w = (framed_plain version1 file f).width in
         rw (records_again, rows_again, rs_short, ← w, le-ltb room (length file) h)
 
 -- what was read, written again, gives the same bytes, and the rest of the buffer is untouched
-pub writing_read : (file : List ℕ) → AreBytes file → (tokens tokens' : List ℤ) (r : Loaded) (n : ℕ) → ReadsFile file tokens r tokens' → r ≡ loaded.Count n
-    → (out out' : List ℕ) (q : Written) → WritesFile tokens' n out q out' → length file ≤ length out
-    → (q ≡ written.Bytes (length file)) × (out' ≡ overlay file out)
+pub writing_read : (file : List ℕ) → AreBytes file → (tokens tokens' : List ℤ) (r : Result ℕ ReadRefusal) (n : ℕ) → ReadsFile file tokens r tokens' → r ≡ Ok n
+    → (out out' : List ℕ) (q : Result ℕ WriteRefusal) → WritesFile tokens' n out q out' → length file ≤ length out
+    → (q ≡ Ok (length file)) × (out' ≡ overlay file out)
 writing_read file b tokens tokens' r n w e out out' q v h =
     let a = read_accepted file (length tokens) n (sym e ∙ w.answer) in
     let rs = file_rows version1 file in
     let t : tokens' ≡ rows_numbers rs ++ drop (length (rows_numbers rs)) tokens = rw e at w.buffer in
     let rest = drop (length (rows_numbers rs)) tokens in
-    let g : q ≡ written.Bytes (length file) = v.answer ∙ rw (t, a.count) (write_back file b a.frame a.rules rest (length out) h) in
+    let g : q ≡ Ok (length file) = v.answer ∙ rw (t, a.count) (write_back file b a.frame a.rules rest (length out) h) in
     let o : out' ≡ overlay (file_of version1 (rows_of n tokens')) out = rw g at v.buffer in
     let m : file_of version1 (rows_of n tokens') ≡ file = rw (t, a.count, rows_again file b a.frame a.rules rest) (rs_file file b a.frame a.rules) in
     (g, o ∙ rw m)

@@ -1,12 +1,17 @@
--- Helper definitions, for proofs and inner contracts alone: rows whose numbers have room in a layout, layouts whose numbers a machine word holds, and
--- what the code's parts read and test.
-use Rattle.std.specs.Prelude.{◌≡◌, Bool, not, List, [], ◌∷◌, ℕ, ◌≤◌, ◌<◌, ◌^◌, eqb, drop}
+-- Helper definitions, for proofs and inner contracts alone: rows whose numbers have room in a layout, and what the code's parts read
+-- and test.
+use Rattle.std.specs.Prelude.{◌≡◌, Bool, true, not, ◌&&◌, List, [], ◌∷◌, ℕ, ◌+◌, ◌<◌, ◌^◌, eqb, ℤ, drop}
+use Rattle.std.specs.Simd.{first_chunks}
 use Rattle.base.specs.Choice.{pick}
 use Rattle.token.specs.Kind.{eof_number}
+use Rattle.token.specs.Layout.{record_width}
 use Rattle.token.specs.Helpers.{Fits63}
-use Rattle.token_file.specs.Format.{bytes_row}
+use Rattle.token_file.specs.Rules.{natural_row}
+use Rattle.token_file.specs.Format.{bytes_row, file_count, framed}
+use Rattle.token_file.specs.Calls.{records_ok}
 use Rattle.token_file.specs.declared.row.Row.{Row}
 use Rattle.token_file.specs.declared.layout.Layout.{Layout}
+use Rattle.token_file.specs.declared.layout.Offsets.{Offsets}
 
 -- Types that other files explain: `Row` in Rules.antt; `Layout` in Format.antt.
 
@@ -24,15 +29,6 @@ pub data RowsFit (y : Layout) : List Row → Type 0 where
   none : RowsFit y []
   some : {r : Row} {rs : List Row} → RowFits y r → RowsFit y rs → RowsFit y (r ∷ rs)
 
--- each number of a token has at most seven bytes, so that a signed 64-bit number holds it
-pub record Narrow (y : Layout) : Type 0 where
-  pub kind : y.kind ≤ 7
-  pub reason : y.reason ≤ 7
-  pub start : y.start ≤ 7
-  pub end : y.end ≤ 7
-  pub line : y.line ≤ 7
-  pub column : y.column ≤ 7
-
 -- a signed 64-bit number holds each number of the row
 pub record RowSmall (r : Row) : Type 0 where
   pub kind : Fits63 r.kind
@@ -42,9 +38,38 @@ pub record RowSmall (r : Row) : Type 0 where
   pub line : Fits63 r.line
   pub column : Fits63 r.column
 
--- "kind 0 last and only there", for a row at which so many are left, itself among them
-abbrev pub last_ok : ℕ → Row → Bool
-last_ok left r = pick (eqb left 1) (eqb r.kind eof_number) (not (eqb r.kind eof_number))
+-- "kind 0 last and only there", for a row that is the last or not
+abbrev pub last_ok : Bool → Row → Bool
+last_ok is_last r = pick is_last (eqb r.kind eof_number) (not (eqb r.kind eof_number))
+
+-- none of the kept numbers of the records is below 0
+abbrev pub all_natural : List (List ℤ) → Bool
+all_natural [] = true
+all_natural (r ∷ rs) = natural_row r && all_natural rs
+
+-- the first records of a slice, each a list of its own, where the slice has so many and they keep the rules
+pub record CheckedRecords (records : List ℤ) (count : ℕ) (checked : List (List ℤ)) : Type 0 where
+  pub rules : records_ok records count ≡ true
+  pub are : checked ≡ first_chunks record_width count records
+
+-- where the numbers of a row that begins at a place begin
+abbrev pub offsets : Layout → ℕ → Offsets
+offsets y at =
+    record {
+      kind = at;
+      reason = at + y.kind;
+      start = at + y.kind + y.reason;
+      end = at + y.kind + y.reason + y.start;
+      line = at + y.kind + y.reason + y.start + y.end;
+      column = at + y.kind + y.reason + y.start + y.end + y.line;
+    }
+
+-- what reading the frame of a file gives, where it is right: the file, its layout and its count
+pub record FrameRead (y : Layout) (file file' : List ℕ) (y' : Layout) (count : ℕ) : Type 0 where
+  pub right : framed y file ≡ true
+  pub same_file : file' ≡ file
+  pub same_layout : y' ≡ y
+  pub counted : count ≡ file_count file
 
 -- what reading a row from bytes gives
 pub record RowRead (y : Layout) (file : List ℕ) (at : ℕ) (r : Row) : Type 0 where

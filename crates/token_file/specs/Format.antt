@@ -1,6 +1,7 @@
 -- The bytes of a token file: document 01, "mark `OFT`, 16-bit version 1, 32-bit count, then per token kind and reason (8 bits each), start, end,
 -- line (32) and column (16), little-endian".
 use Rattle.std.specs.Prelude.{Bool, ◌&&◌, List, [], ◌∷◌, ◌++◌, ℕ, zero, suc, ◌+◌, ◌*◌, ◌/◌, ◌%◌, leb, eqb, length, take, drop}
+use Rattle.std.proofs.Common.{lit≤}
 use Rattle.base.specs.Characters.{ascii}
 use Rattle.base.specs.Bytes.{same_bytes}
 use Rattle.token_file.specs.declared.row.Row.{Row}
@@ -22,9 +23,20 @@ unlittle (b ∷ bs) = b + 256 * unlittle bs
 
 -- ---- the layout of a version: one row of this table for each
 
--- version 1, in bytes; a `Layout` of the code has the version and how many bytes each number of a `Row` has: kind, reason, start, end, line, column
+-- version 1, in bytes; a `Layout` of the code has the version and how many bytes each number of a `Row` has: kind, reason, start, end, line, column;
+-- `narrow` says that each of the six has at most seven
 unfoldable pub version1 : Layout
-version1 = record { version = 1; kind = 1; reason = 1; start = 4; end = 4; line = 4; column = 2 }
+version1 =
+    record {
+      version = 1;
+      kind = 1;
+      reason = 1;
+      start = 4;
+      end = 4;
+      line = 4;
+      column = 2;
+      narrow = (lit≤ tt, lit≤ tt, lit≤ tt, lit≤ tt, lit≤ tt, lit≤ tt);
+    }
 
 -- how many bytes a token has
 unfoldable pub row_width : Layout → ℕ

@@ -8,12 +8,10 @@ pub fn put_little(out: &mut [u8], at: usize, width: usize, n: usize)
     requires { at + width ≤ length out.old }
     ensures { out.new ≡ sets out.old at (little width n) }
 {
-    let mut k = 0;
     let mut rest = n;
-    while k < width {
-        out[at + k] = (rest % 256) as u8;
+    for i in at..at + width {
+        out[i] = (rest % 256) as u8;
         rest /= 256;
-        k += 1;
     }
 }
 
@@ -22,11 +20,9 @@ pub fn get_little(file: &[u8], at: usize, width: usize) -> usize
     requires { (at + width ≤ length file.now) × (width ≤ 8) }
     ensures { (result ≡ number_at file.now at width) × (result < 256 ^ width) }
 {
-    let mut k = width;
     let mut n = 0;
-    while 0 < k {
-        k -= 1;
-        n = n * 256 + base::wide(file[at + k]) as usize;
+    for i in (at..at + width).rev() {
+        n = n * 256 + usize::from(file[i]);
     }
     n
 }

@@ -1,10 +1,11 @@
 // The numbers of a token record that a token file keeps, and the record rules.
-ghost use Rattle.std.specs.Prelude.{◌≡◌, ◌&&◌};
+ghost use Rattle.std.specs.Prelude.{◌≡◌, ◌&&◌, OkIff, true};
 ghost use Rattle.token.specs.Reason.{reason_ok};
-ghost use Rattle.token_file.specs.Rules.{row_numbers, span_ok, row_ok};
-ghost use Rattle.token_file.specs.Fits.{RowSmall, last_ok};
+ghost use Rattle.token_file.specs.Rules.{natural_row, row_at, filled, span_ok, row_ok};
+ghost use Rattle.token_file.specs.Fits.{last_ok};
 
 use limits::MAX_MESSAGE_SIZE;
+use std::num::TryFromIntError;
 use token::layout::{RECORD_WIDTH, Record};
 use token::{kind, reason};
 
@@ -21,64 +22,83 @@ pub struct Row {
     pub column: usize,
 }
 
-impl Row {
-    // The record as it is stored, with 0 for the numbers that a token file does not keep.
-    pub fn numbers(self) -> [i64; RECORD_WIDTH]
-        requires { RowSmall self }
-        ensures { result ≡ row_numbers self }
-    {
-        let record = Record {
-            kind: self.kind,
-            reason: self.reason,
+// The kept numbers of a record, unless one of them is below 0.
+impl TryFrom<&[i64; RECORD_WIDTH]> for Row {
+    type Error = TryFromIntError;
+
+    ghost try_from_gives = { λ l r. OkIff r (natural_row l.now ≡ true) (row_at l.now) };
+
+    fn try_from(numbers: &[i64; RECORD_WIDTH]) -> Result<Self, TryFromIntError> {
+        let [kind, reason, _, start, end, line, column, ..] = *numbers;
+        Ok(Self {
+            kind: usize::try_from(kind)?,
+            reason: usize::try_from(reason)?,
+            start: usize::try_from(start)?,
+            end: usize::try_from(end)?,
+            line: usize::try_from(line)?,
+            column: usize::try_from(column)?,
+        })
+    }
+}
+
+// The record of these numbers, with 0 for those that a token file does not keep.
+impl From<Row> for Record {
+    ghost from_gives = { λ row r. r ≡ filled row };
+
+    fn from(row: Row) -> Self {
+        Self {
+            kind: row.kind,
+            reason: row.reason,
             detail: 0,
-            start: self.start,
-            end: self.end,
-            line: self.line,
-            column: self.column,
+            start: row.start,
+            end: row.end,
+            line: row.line,
+            column: row.column,
             value: 0,
             size: 0,
             precision: 0,
             digits: 0,
             nanos: 0,
-        };
-        record.numbers()
+        }
     }
 }
 
-fn span_ok(kind: usize, start: usize, end: usize) -> bool
-    ensures { result ≡ span_ok kind start end }
-{
-    if kind == kind::EOF {
-        return start == end;
+impl Row {
+    fn span_ok(self) -> bool
+        ensures { result ≡ span_ok self.kind self.start self.end }
+    {
+        if self.kind == kind::EOF {
+            return self.start == self.end;
+        }
+        self.start < self.end
     }
-    start < end
-}
 
-// Whether the row keeps the rules after the end of the row before it.
-fn row_ok(prev: usize, row: Row) -> bool
-    ensures { result ≡ row_ok reason_ok prev row }
-{
-    let line = (1 <= row.line) & (row.line <= LAST_PLACE);
-    let column = (1 <= row.column) & (row.column <= LAST_PLACE);
-    let places = (prev <= row.start) & ((row.end <= MAX_MESSAGE_SIZE) & (line & column));
-    let reason = reason::reason_ok(row.kind, row.reason);
-    let span = span_ok(row.kind, row.start, row.end);
-    (row.kind <= kind::LAST) & (reason & (span & places))
-}
-
-// Whether the row is of kind 0 exactly where it is the only one left.
-fn last_ok(left: usize, row: Row) -> bool
-    ensures { result ≡ last_ok left row }
-{
-    if left == 1 {
-        return row.kind == kind::EOF;
+    // Whether the row keeps the rules after the end of the row before it.
+    #[tactic(auto, unfolding(crate::specs::Rules::row_ok))]
+    fn row_ok(self, prev: usize) -> bool
+        ensures { result ≡ row_ok reason_ok prev self }
+    {
+        let line = (1 <= self.line) & (self.line <= LAST_PLACE);
+        let column = (1 <= self.column) & (self.column <= LAST_PLACE);
+        let places = (prev <= self.start) & ((self.end <= MAX_MESSAGE_SIZE) & (line & column));
+        let reason = reason::reason_ok(self.kind, self.reason);
+        (self.kind <= kind::LAST) & (reason & (self.span_ok() & places))
     }
-    row.kind != kind::EOF
-}
 
-// Whether the row may stand after the end `prev` with `left` rows left, itself among them.
-pub fn may_stand(prev: usize, left: usize, row: Row) -> bool
-    ensures { result ≡ last_ok left row && row_ok reason_ok prev row }
-{
-    last_ok(left, row) & row_ok(prev, row)
+    // Whether the row is of kind 0 exactly where it is the last.
+    fn last_ok(self, is_last: bool) -> bool
+        ensures { result ≡ last_ok is_last self }
+    {
+        if is_last {
+            return self.kind == kind::EOF;
+        }
+        self.kind != kind::EOF
+    }
+
+    // Whether the row may stand after the end `prev`.
+    pub fn may_stand(self, prev: usize, is_last: bool) -> bool
+        ensures { result ≡ last_ok is_last self && row_ok reason_ok prev self }
+    {
+        self.last_ok(is_last) & self.row_ok(prev)
+    }
 }

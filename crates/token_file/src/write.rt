@@ -1,55 +1,36 @@
 // The writer of token files.
-ghost use Rattle.std.specs.Prelude.{◌≡◌, ◌+◌, ◌*◌, ◌≤◌, ◌<◌, length};
+ghost use Rattle.std.specs.Prelude.{◌≡◌, true, ◌+◌, ◌≤◌, length, map};
 ghost use Rattle.std.proofs.lemmas.List.Edits.{sets};
-ghost use Rattle.token.specs.Layout.{record_width};
-ghost use Rattle.token_file.specs.Rules.{rows_of};
+ghost use Rattle.token_file.specs.Rules.{row_at};
 ghost use Rattle.token_file.specs.Format.{header, header_width, row_bytes, rows_bytes, row_width, file_width};
-ghost use Rattle.token_file.specs.Fits.{Narrow};
-ghost use Rattle.token_file.specs.Calls.{WritesFile, written_number, written_value};
+ghost use Rattle.token_file.specs.Fits.{all_natural};
+ghost use Rattle.token_file.specs.Calls.{WritesFile, write_refusal_number};
 
 use crate::layout::{HEADER_WIDTH, Layout};
 use crate::row::Row;
 use crate::{number, records};
+use base::answer::Numbered;
 use token::layout::RECORD_WIDTH;
 
-// The largest column that 16 bits hold.
-const LARGEST_COLUMN: usize = 65535;
-
-// What writing a token file answers.
-#[derive(Clone, Copy)]
-pub enum Written {
-    // How many bytes were written.
-    Bytes(usize),
+// Why no token file is written.
+#[derive(Clone, Copy, PartialEq, Eq, Debug)]
+pub enum WriteRefusal {
     // The records break the record rules, or the slice is too short for them.
     BadRecords,
-    // A column above LARGEST_COLUMN.
+    // A column above 65,535.
     LongColumn,
     // The buffer is too short.
     NoRoom,
 }
 
-impl Written {
-    // The answer's number: 0 where the call is accepted.
-    pub fn number(self) -> u8
-        ensures { result ≡ written_number self }
-    {
-        match self {
-            Written::Bytes(_) => 0,
-            Written::BadRecords => 8,
-            Written::LongColumn => 9,
-            Written::NoRoom => 10,
-        }
-    }
+impl Numbered for WriteRefusal {
+    ghost number_of = { write_refusal_number };
 
-    // How many bytes were written: none where the call is refused.
-    pub fn value(self) -> usize
-        ensures { result ≡ written_value self }
-    {
+    fn number(self) -> u8 {
         match self {
-            Written::Bytes(n) => n,
-            Written::BadRecords => 0,
-            Written::LongColumn => 0,
-            Written::NoRoom => 0,
+            WriteRefusal::BadRecords => 8,
+            WriteRefusal::LongColumn => 9,
+            WriteRefusal::NoRoom => 10,
         }
     }
 }
@@ -67,57 +48,55 @@ fn put_header(out: &mut [u8], y: Layout, count: usize)
 }
 
 // Writes the row from `at` on.
+#[tactic(auto, unfolding(crate::specs::Format::row_width))]
 fn put_row(out: &mut [u8], at: usize, y: Layout, row: Row)
     requires { at + row_width y ≤ length out.old }
     ensures { out.new ≡ sets out.old at (row_bytes y row) }
 {
-    let reason = at + y.kind;
-    let start = reason + y.reason;
-    let end = start + y.start;
-    let line = end + y.end;
-    let column = line + y.line;
-    number::put_little(out, at, y.kind, row.kind);
-    number::put_little(out, reason, y.reason, row.reason);
-    number::put_little(out, start, y.start, row.start);
-    number::put_little(out, end, y.end, row.end);
-    number::put_little(out, line, y.line, row.line);
-    number::put_little(out, column, y.column, row.column);
+    let o = y.offsets(at);
+    number::put_little(out, o.kind, y.kind, row.kind);
+    number::put_little(out, o.reason, y.reason, row.reason);
+    number::put_little(out, o.start, y.start, row.start);
+    number::put_little(out, o.end, y.end, row.end);
+    number::put_little(out, o.line, y.line, row.line);
+    number::put_little(out, o.column, y.column, row.column);
 }
 
-// Writes the rows of `count` records after the header.
-fn put_rows(out: &mut [u8], y: Layout, records: &[i64], count: usize)
-    requires { Narrow y × (file_width y count ≤ length out.old) × (count * record_width ≤ length records.now) }
-    ensures { out.new ≡ sets out.old header_width (rows_bytes y (rows_of count records.now)) }
+// Writes the rows of the records after the header.
+fn put_rows(out: &mut [u8], y: Layout, records: &[[i64; RECORD_WIDTH]])
+    requires room { file_width y (length records.now) ≤ length out.old }
+    requires natural { all_natural records.now ≡ true }
+    ensures { out.new ≡ sets out.old header_width (rows_bytes y (map row_at records.now)) }
 {
-    let width = y.row_width();
-    let mut to = HEADER_WIDTH;
-    let mut at = 0;
-    let mut left = count;
-    while 0 < left {
-        let row = records::row_at(records, at);
-        put_row(out, to, y, row);
-        to += width;
-        at += RECORD_WIDTH;
-        left -= 1;
+    for (i, record) in records.iter().enumerate() {
+        // No number is below 0, since the records are checked.
+        let Ok(row) = Row::try_from(record) else {
+            unreachable!();
+        };
+        put_row(out, y.file_width(i), y, row);
     }
 }
 
 // Writes the token file of `count` records into `out`. Refuses 8, 9 and 10 in this order, and then writes nothing.
-pub fn write_token_file(records: &[i64], count: usize, out: &mut [u8]) -> Written
+pub fn write_token_file(
+    records: &[i64],
+    count: usize,
+    out: &mut [u8],
+) -> Result<usize, WriteRefusal>
     ensures { WritesFile records.now count out.old result out.new }
 {
-    if !records::records_ok(records, count) {
-        return Written::BadRecords;
-    }
-    if records::some_above(LARGEST_COLUMN, records, count) {
-        return Written::LongColumn;
+    let Some(records) = records::checked(records, count) else {
+        return Err(WriteRefusal::BadRecords);
+    };
+    if records::some_long_column(records) {
+        return Err(WriteRefusal::LongColumn);
     }
     let y = Layout::version1();
     let size = y.file_width(count);
     if out.len() < size {
-        return Written::NoRoom;
+        return Err(WriteRefusal::NoRoom);
     }
     put_header(out, y, count);
-    put_rows(out, y, records, count);
-    Written::Bytes(size)
+    put_rows(out, y, records);
+    Ok(size)
 }

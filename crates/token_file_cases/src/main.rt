@@ -52,7 +52,7 @@ fn write_case(line: &[u8]) {
     let room = parse::at_most(parse::digits(&line[b..c]), 256);
     let out = &mut space[..room];
     let r = token_file::write::write_token_file(&records[..n], count, out);
-    show_answer(r.number(), r.value());
+    show_answer(base::answer::number(r), base::answer::value(r));
     show_bytes(out);
 }
 
@@ -65,7 +65,7 @@ fn read_case(line: &[u8]) {
     let room = parse::at_most(parse::digits(&line[a..b]), 256);
     let tokens = &mut numbers[..room];
     let r = token_file::read::read_token_file(&space[..n], tokens);
-    show_answer(r.number(), r.value());
+    show_answer(base::answer::number(r), base::answer::value(r));
     show_numbers(tokens);
 }
 

@@ -1,25 +1,33 @@
 -- `put_rows` leaves the stores of all rows' bytes: what is left to store, stored from here on, makes the whole. Assumes nothing.
+use mathlib.Core.Path.{refl}
+use mathlib.Core.List.{[]}
 use native.Mathlib.Omega.{arith}
-use Rattle.token_file.proofs.Storing.{put_rows_start, put_rows_room, put_rows_turn, put_rows_end}
+use Rattle.std.proofs.lemmas.List.{length-map}
+use Rattle.std.proofs.lemmas.List.Recursion.{and_at}
+use Rattle.token_file.specs.Rules.{natural_row}
+use Rattle.token_file.specs.Fits.{all_natural}
+use Rattle.token_file.proofs.Pieces.{next_record, next_width, row_inside}
+use Rattle.token_file.proofs.Storing.{put_rows_start, put_rows_turn, put_rows_end}
 use Rattle.token_file.proofs.write.put_rows.Goals as goal
 
-pub loop-left-init : goal.loop-left-init
-loop-left-init c = search put_rows_start
+pub loop-i-init : goal.loop-i-init
+loop-i-init c = put_rows_start _ _ _
+
+pub unreachable-requires : goal.unreachable-requires
+unreachable-requires c =
+    c.in_default.ensures (and_at all_natural natural_row refl (λ _ _. refl) c.args.records.now c.loop-i.i [] c.loop-i-test.true c.requires.natural)
+
+pub file_width-requires : goal.file_width-requires
+file_width-requires c =
+    omega (arith, row_inside c.args.y _ c.loop-i.i c.loop-i-test.true, next_width c.args.y c.loop-i.i, c.requires.room, c.well_formed)
 
 pub put_row-requires : goal.put_row-requires
-put_row-requires c = search put_rows_room
+put_row-requires c =
+    omega (arith, row_inside c.args.y _ c.loop-i.i c.loop-i-test.true, next_width c.args.y c.loop-i.i, c.requires.room, c.file_width.ensures)
 
-pub overflow_add-to : goal.overflow_add-to
-overflow_add-to c = omega (
-  arith,
-  put_rows_room c.loop-left.invariant c.loop-left-test.true,
-  c.row_width-width.ensures,
-  c.loop-left.invariant.size,
-  c.well_formed,
-)
-
-pub loop-left-preserved : goal.loop-left-preserved
-loop-left-preserved c = search put_rows_turn
+pub loop-i-preserved : goal.loop-i-preserved
+loop-i-preserved c =
+    put_rows_turn c.loop-i.invariant (next_record _ _ c.loop-i-test.true c.in-Ok.ensures.1) (rw c.file_width.ensures at c.put_row.ensures)
 
 pub returns : goal.returns
-returns c = search put_rows_end
+returns c = put_rows_end c.loop-i.invariant (rw length-map c.loop-i-test.false)

@@ -12,6 +12,7 @@ use lib.ListN.{length, take, drop, length-drop, drop_of_length-le}
 use lib.Seq.{drop-cons, drop-drop, take-suc, take-length, length-take-le}
 use mir.Syntax.{w64}
 use mir.Val.{Fits}
+use Rattle.std.specs.List.{starts_with}
 use Rattle.base.specs.Choice.{pick}
 use Rattle.base.specs.Bytes.{byte}
 use Rattle.base.proofs.Reaches.{rest_is}
@@ -127,35 +128,11 @@ module _ (t : List ℕ) (i : ℕ) (u : Backing t i) where
     pub backing_on : (byte t (i - 1) ≡ 0x0A → ⊥) → Backing t (i - 1)
     backing_on e = record { inside = omega arith; is = turn ∙ rw (ne_eqb (byte t (i - 1)) 0x0A e) }
 
--- ---- `starts_with`
+-- ---- `indent_size`
 
--- at k: t begins with p where the rests from k do
-pub record Matching (p t : List ℕ) (k : ℕ) : Type 0 where
-  pub inside : k ≤ length p
-  pub is : prefix p t ≡ prefix (drop k p) (drop k t)
-
-pub matching_first : (p t : List ℕ) → Matching p t 0
-matching_first p t = record { inside = omega arith; is = refl }
-
-pub matching_short : (p t : List ℕ) → length t < length p → false ≡ prefix p t
-matching_short p t h = go (prefix p t) refl
-  where
-    go : (b : Bool) → prefix p t ≡ b → false ≡ b
-    go true e = absurd (omega (arith, prefix_long p t e))
-    go false e = refl
-
-module _ (p t : List ℕ) (k : ℕ) (u : Matching p t k) where
-  pub matching_end : length p ≤ k → true ≡ prefix p t
-  unfolding prefix
-  matching_end h = sym (u.is ∙ rw (drop_of_length-le p h) refl)
-
-  module _ (h : k < length p) (long : length p ≤ length t) where
-    matching_turn : prefix p t ≡ eqb (byte p k) (byte t k) && prefix (drop (k + 1) p) (drop (k + 1) t)
-    unfolding prefix
-    matching_turn = let i : k < length t = omega arith in u.is ∙ rw (drop-cons p k 0 h, drop-cons t k 0 i, add-one k) refl
-
-    pub matching_fail : (byte p k ≡ byte t k → ⊥) → false ≡ prefix p t
-    matching_fail e = sym (matching_turn ∙ rw (ne_eqb (byte p k) (byte t k) e) refl)
-
-    pub matching_on : byte p k ≡ byte t k → Matching p t (k + 1)
-    matching_on e = record { inside = omega arith; is = matching_turn ∙ rw (eq-eqb (byte p k) (byte t k) e) refl }
+-- the library's test of the front of a slice
+pub starts_prefix : (p t : List ℕ) → starts_with eqb t p ≡ prefix p t
+unfolding prefix
+starts_prefix [] t = refl
+starts_prefix (a ∷ p) [] = refl
+starts_prefix (a ∷ p) (x ∷ t) = ap (eqb a x &&◌) (starts_prefix p t)

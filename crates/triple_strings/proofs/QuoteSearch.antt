@@ -1,17 +1,18 @@
 -- For `at_quotes`, `find_quotes` and the laws of the whole: three quotes, the search for them, and what stands where it ends. By induction on the
 -- rest of the text. Assumes nothing.
 use mathlib.Core.Path.{◌≡◌, refl, ap, sym, ◌∙◌}
-use mathlib.Core.Bool.{Bool, true, false, ◌&&◌, and_assoc}
+use mathlib.Core.Bool.{Bool, true, false, ◌&&◌, and-true}
 use mathlib.Core.List.{List, [], ◌∷◌}
 use Prim.Native.Nat.{ℕ, suc, ◌+◌, ◌-◌, ◌≤◌, ◌<◌}
 use native.Mathlib.Omega.{arith}
 use borrow.Author.Tests.{eqb-true, ne_eqb}
 use lib.Dec.{eqb}
+use Rattle.std.specs.List.{starts_with}
 use lib.ListN.{length, take, drop, length-drop, get_or-eq_default}
 use lib.Seq.{drop-cons, get_or-drop}
 use Rattle.base.specs.Choice.{pick}
 use Rattle.base.specs.Bytes.{byte}
-use Rattle.base.proofs.Tests.{and_left, and_right, and-false, in_text, pick_le}
+use Rattle.base.proofs.Tests.{and_left, and_right, and-false, by_cases, true_false, in_text, pick_le}
 use Rattle.base.proofs.Reaches.{rest_is}
 use Rattle.triple_strings.specs.Triple.{quotes, until_quotes}
 
@@ -35,10 +36,6 @@ module _ (t : List ℕ) where
   quotes_short h =
       let z : byte t 2 ≡ 0 = get_or-eq_default t 0 {n = 2} (omega arith) in
       no_quote_2 (λ e. omega arith)
-
-  pub quotes_tests : eqb (byte t 0) 0x22 && eqb (byte t 1) 0x22 && eqb (byte t 2) 0x22 ≡ quotes t
-  unfolding quotes
-  quotes_tests = and_assoc (eqb (byte t 0) 0x22) (eqb (byte t 1) 0x22) (eqb (byte t 2) 0x22)
 
   module _ (h : quotes t ≡ true) where
     late : eqb (byte t 1) 0x22 && eqb (byte t 2) 0x22 ≡ true
@@ -83,6 +80,17 @@ until_cons x t e = rw e
 until_short : (t : List ℕ) → length t ≤ 2 → until_quotes t ≡ length t
 until_short [] h = let l = until_le [] in omega arith
 until_short (x ∷ t) h = until_cons x t (quotes_short (x ∷ t) (omega arith)) ∙ ap suc (until_short t (omega arith))
+
+turned : (a : ℕ) → eqb 0x22 a ≡ eqb a 0x22
+turned a = by_cases (eqb a 0x22) (λ e. rw (eqb-true a 0x22 e)) (λ e. rw e (ne_eqb 0x22 a (λ q. true_false (eqb a 0x22) (rw (← q)) e)))
+
+-- the library's test of the front of a slice
+pub starts_quotes : (t : List ℕ) → starts_with eqb t (0x22 ∷ 0x22 ∷ 0x22 ∷ []) ≡ quotes t
+unfolding quotes
+starts_quotes [] = refl
+starts_quotes (a ∷ []) = rw (turned a)
+starts_quotes (a ∷ b ∷ []) = rw (turned a, turned b)
+starts_quotes (a ∷ b ∷ c ∷ t) = rw (turned a, turned b, turned c, and-true)
 
 -- ---- `find_quotes` at i: no three quotes before it
 

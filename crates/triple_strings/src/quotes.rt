@@ -6,10 +6,7 @@ ghost use Rattle.triple_strings.specs.Triple.{quotes, until_quotes};
 pub fn at_quotes(t: &[u8]) -> bool
     ensures { result ≡ quotes t.now }
 {
-    if t.len() < 3 {
-        return false;
-    }
-    (t[0] == b'"') & (t[1] == b'"') & (t[2] == b'"')
+    t.starts_with(b"\"\"\"")
 }
 
 // How many bytes stand before the first three quotes; all of them where there are none. A byte that is no quote rules out three starts.

@@ -2,8 +2,5 @@
 use Rattle.triple_strings.proofs.LineScans.{Backing}
 use Rattle.triple_strings.proofs.lines.last_line.Given as goal
 
-abbrev pub invariant-loop-i : goal.invariant-loop-i
-invariant-loop-i l = Backing l.t l.i
-
-abbrev pub decreases-loop-i : goal.decreases-loop-i
-decreases-loop-i l = l.i
+abbrev pub invariant-loop-k : goal.invariant-loop-k
+invariant-loop-k l = Backing l.t l.k

@@ -1,9 +1,7 @@
--- `at_quotes` is `quotes`: the three tests, and fewer than three bytes are none. Assumes nothing.
-use Rattle.triple_strings.proofs.QuoteSearch.{quotes_short, quotes_tests}
+-- `at_quotes` is `quotes`: the three tests. Assumes nothing.
+use mathlib.Core.Path.{◌∙◌}
+use Rattle.triple_strings.proofs.QuoteSearch.{starts_quotes}
 use Rattle.triple_strings.proofs.quotes.at_quotes.Goals as goal
 
-pub returns-then-t-lt3 : goal.returns-then-t-lt3
-returns-then-t-lt3 c = search quotes_short
-
 pub returns : goal.returns
-returns c = search quotes_tests
+returns c = c.starts_with.ensures.value ∙ starts_quotes c.args.t.now

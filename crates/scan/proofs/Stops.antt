@@ -1,6 +1,6 @@
 -- For `bytes_stop` and `lex_bytes`: where a bytes literal stops, one turn of the loop at a time, and what stands there. By induction on the turns
 -- that are left. Assumes nothing.
-use mathlib.Core.Path.{◌≡◌, refl}
+use mathlib.Core.Path.{◌≡◌, refl, sym, ◌∙◌}
 use mathlib.Core.Bool.{Bool, true, false}
 use mathlib.Core.List.{List}
 use Prim.Native.Nat.{ℕ, zero, suc, ◌+◌, ◌-◌, ◌*◌, ◌/◌, ◌≤◌, ◌<◌}
@@ -12,7 +12,7 @@ use lib.ListN.{length, drop, drop_of_length-le}
 use lib.Seq.{drop-cons}
 use Rattle.base.specs.Choice.{pick}
 use Rattle.base.specs.Bytes.{byte}
-use Rattle.base.proofs.Tests.{pick_case}
+use Rattle.base.proofs.Tests.{by_cases, pick_case}
 use Rattle.scan.specs.Bytes.{bytes_stop}
 use Rattle.scan.specs.declared.bytes.Stop.TheVariants as stop
 use Rattle.scan.specs.declared.bytes.Stop.{Stop}
@@ -34,9 +34,24 @@ module _ (limit : ℕ) (s : List ℕ) (i : ℕ) where
       let e : i + 1 - 2 ≡ i - 2 + 1 = omega arith in
       rw (e, add-one i, drop-cons s i 0 h)
 
+  pub stop_here : 2 ≤ i → i < length s → stop_from limit s i ≡ stop_from limit s 2 → stop_from limit s 2 ≡ stop_at limit s i
+  stop_here g h u = sym u ∙ stop_at_lem g h
+
   pub stop_end : length s ≤ i → stop_from limit s i ≡ stop.Open (i - 2)
   unfolding bytes_stop
   stop_end h = rw (drop_of_length-le s h)
+
+-- after the last turn
+pub stop_last : (limit : ℕ) (s : List ℕ) (i n : ℕ) → length s ≤ i → (2 ≤ length s → i ≤ length s) → stop_from limit s i ≡ stop_from limit s 2
+    → n ≡ length s - 2 → stop.Open n ≡ stop_from limit s 2
+stop_last limit s i n h g u e =
+    by_cases (ltb (length s) 2)
+    (λ q. let l = ltb-true (length s) 2 q in
+    let z : n ≡ 0 = omega arith in
+    rw z (sym (stop_end limit s 2 (omega arith))))
+    (λ q. let l = g (ltb-false (length s) 2 q) in
+    let z : n ≡ i - 2 = omega arith in
+    rw z (sym (stop_end limit s i h) ∙ u))
 
 -- what holds of a text where its literal stops
 abbrev pub Stands : List ℕ → Stop → Type 0

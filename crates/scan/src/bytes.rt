@@ -25,8 +25,7 @@ pub enum Stop {
 fn bytes_stop(s: &[u8], limit: usize) -> Stop
     ensures { result ≡ bytes_stop limit 0 (drop 2 s.now) }
 {
-    let mut i: usize = 2;
-    while i < s.len() {
+    for i in 2..s.len() {
         let n = i - 2;
         let b = s[i];
         let over = limit < n / 4 * 3;
@@ -39,10 +38,8 @@ fn bytes_stop(s: &[u8], limit: usize) -> Stop
         if b == b'\n' {
             return Stop::Newline(n);
         }
-        i += 1;
     }
-    let n = i - 2;
-    Stop::Open(n)
+    Stop::Open(s.len().saturating_sub(2))
 }
 
 // A literal of `len` bytes with `n` bytes between its quotes.

@@ -1,12 +1,7 @@
 -- `bytes_stop` meets its contract: the literal stops from here on where it stops from its first byte on. Assumes nothing.
 use mathlib.Core.Path.{◌≡◌}
-use Prim.Native.Nat.{◌-◌, ◌≤◌}
-use lib.ListN.{length}
 use Rattle.scan.proofs.Stops.{stop_from}
 use Rattle.scan.proofs.bytes.bytes_stop.Given as goal
 
 abbrev pub invariant-loop-i : goal.invariant-loop-i
-invariant-loop-i l = (2 ≤ l.i) × (stop_from l.limit l.s l.i ≡ stop_from l.limit l.s 2)
-
-abbrev pub decreases-loop-i : goal.decreases-loop-i
-decreases-loop-i l = length l.s - l.i
+invariant-loop-i l = stop_from l.limit l.s l.i ≡ stop_from l.limit l.s 2

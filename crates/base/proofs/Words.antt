@@ -1,11 +1,12 @@
 -- For go_duration, scan and token_file: the test whether two lists of bytes are equal, against their equality. By induction on the lists. Assumes nothing.
-use mathlib.Core.Path.{◌≡◌, refl}
-use mathlib.Core.Bool.{Bool, true, false}
+use mathlib.Core.Path.{◌≡◌, refl, ap}
+use mathlib.Core.Bool.{true, ◌&&◌}
 use mathlib.Core.List.{List, [], ◌∷◌}
 use Prim.Native.Nat.{ℕ}
 use native.Mathlib.Omega.{arith}
 use lib.Dec.{eqb}
 use lib.ListN.{length}
+use lib.Pointwise.{pointwise}
 use borrow.Author.Tests.{eqb-true, eq-eqb}
 use Rattle.base.specs.Bytes.{byte, same_bytes}
 use Rattle.base.proofs.Tests.{and_left, and_right}
@@ -25,15 +26,13 @@ unfolding same_bytes
 same_refl [] = refl
 same_refl (a ∷ s) = rw (eq-eqb a a refl, same_refl s)
 
--- a test that is true exactly where two lists are equal is `same_bytes`
-pub same_test : (s t : List ℕ) (r : Bool) → (r ≡ true → s ≡ t) → (s ≡ t → r ≡ true) → r ≡ same_bytes s t
-same_test s t r to from = go r (same_bytes s t) refl refl
-  where
-    go : (x y : Bool) → r ≡ x → same_bytes s t ≡ y → r ≡ same_bytes s t
-    go true true p q = cc
-    go false false p q = cc
-    go true false p q = let e = to p in let z = same_refl s in cc
-    go false true p q = let e = from (same_eq s t q) in cc
+-- the library's equality of two slices
+pub equal_same : (s t : List ℕ) → pointwise eqb s t ≡ same_bytes s t
+unfolding same_bytes
+equal_same [] [] = refl
+equal_same [] (b ∷ t) = refl
+equal_same (a ∷ s) [] = refl
+equal_same (a ∷ s) (b ∷ t) = ap (eqb a b &&◌) (equal_same s t)
 
 -- a list of one, two or three bytes
 pub one_byte_lem : (u : List ℕ) → length u ≡ 1 → byte u 0 ∷ [] ≡ u

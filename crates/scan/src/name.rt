@@ -13,7 +13,7 @@ use token::reason;
 fn is_word(name: &[u8], word: &[u8]) -> bool
     ensures { result ≡ same_bytes name.now word.now }
 {
-    check::same(name, word)
+    name == word
 }
 
 // What a name is.

@@ -1,6 +1,7 @@
--- `is_word` meets its contract: equality of slices is `same_bytes`. Assumes nothing.
-use Rattle.base.proofs.Words.{same_test}
+-- `is_word` meets its contract: the library's equality of slices is `same_bytes`. Assumes nothing.
+use mathlib.Core.Path.{◌∙◌}
+use Rattle.base.proofs.Words.{equal_same}
 use Rattle.scan.proofs.name.is_word.Goals as goal
 
 pub returns : goal.returns
-returns c = same_test _ _ _ c.same.ensures.0 c.same.ensures.1
+returns c = c.eq.ensures ∙ equal_same _ _

@@ -13,8 +13,7 @@ fn is_plain(b: u8) -> bool
 
 fn print_byte(b: u8) {
     if is_plain(b) {
-        let one = [b; 1];
-        io::write_all(STDOUT_FILENO, &one);
+        io::write_all(STDOUT_FILENO, &[b]);
         return;
     }
     io::write_all(STDOUT_FILENO, b"\\");
@@ -22,10 +21,8 @@ fn print_byte(b: u8) {
 }
 
 pub fn print_bytes(s: &[u8]) {
-    let mut i = 0;
-    while i < s.len() {
-        print_byte(s[i]);
-        i += 1;
+    for &b in s {
+        print_byte(b);
     }
 }
 

@@ -6,15 +6,16 @@ mod escaped;
 
 ghost use Rattle.std.specs.Prelude.{◌*◌, ◌≤◌, length};
 ghost use Rattle.token.specs.Layout.{record_width, report_width};
-ghost use Rattle.cases.specs.Room.{Roomy};
 
+use base::answer::Numbered;
 use lexer::reading::Reading;
 use notation::numbers::{put_number, separator_before};
 use notation::parse;
-use reading::one::{ReadToken, read_token};
-use reading::place::{PlaceOf, place_of};
+use reading::counts::Counts;
+use reading::one::read_token;
+use reading::place::place_of;
 use reading::refusal::Refusal;
-use reading::text::{ReadText, read_text};
+use reading::text::read_text;
 use rfc3339::parse::Instant;
 use token::layout::{RECORD_WIDTH, REPORT_WIDTH};
 use token::place::Place;
@@ -40,28 +41,37 @@ enum Asked {
     Instant,
 }
 
+// How long the buffers are: none is longer than the one that it is cut from.
+#[derive(Clone, Copy)]
+struct Room {
+    tokens: usize,
+    strings: usize,
+    reports: usize,
+    ghost tokens_in: { tokens ≤ 513 * record_width },
+    ghost strings_in: { strings ≤ 512 },
+    ghost reports_in: { reports ≤ 512 * report_width },
+}
+
 // How a text is read, what is asked of it, and how long the buffers are.
 #[derive(Clone, Copy)]
 struct How {
     mode: Reading,
     limit: usize,
     asked: Asked,
-    tokens: usize,
-    strings: usize,
-    reports: usize,
+    room: Room,
 }
 
 // How a case is read that asks for nothing else.
-fn plainly() -> How
-    ensures { Roomy result }
-{
+fn plainly() -> How {
     How {
         mode: Reading::Strict,
         limit: 0,
         asked: Asked::Whole,
-        tokens: TOKENS,
-        strings: STRINGS,
-        reports: REPORTS,
+        room: Room {
+            tokens: TOKENS,
+            strings: STRINGS,
+            reports: REPORTS,
+        },
     }
 }
 
@@ -75,11 +85,8 @@ fn print_number(z: i64, after: u8) {
 // A line: a word, and numbers.
 fn print_row(word: &[u8], row: &[i64]) {
     io::write_all(STDOUT_FILENO, word);
-    let mut i = 0;
-    while i < row.len() {
-        let z = row[i];
-        i += 1;
-        print_number(z, separator_before(row.len() - i));
+    for i in 0..row.len() {
+        print_number(row[i], separator_before(row.len() - (i + 1)));
     }
 }
 
@@ -87,11 +94,8 @@ fn print_row(word: &[u8], row: &[i64]) {
 fn print_rows(word: &[u8], all: &[i64], width: usize)
     requires { 1 ≤ width }
 {
-    let mut at = 0;
-    while width <= all.len() - at {
-        let e = at + width;
-        print_row(word, &all[at..e]);
-        at = e;
+    for row in all.chunks_exact(width) {
+        print_row(word, row);
     }
 }
 
@@ -118,14 +122,14 @@ fn print_refusal(r: Refusal) {
     io::write_all(STDOUT_FILENO, b"\n");
 }
 
-// Prints these many tokens, string bytes and reports.
-fn print_counts(tokens: &[i64], strings: &[u8], reports: &[i64], n: usize, m: usize, k: usize)
-    requires { (n * record_width ≤ length tokens.now) × (m ≤ length strings.now) × (k * report_width ≤ length reports.now) }
+// Prints so many tokens, string bytes and reports.
+fn print_counts(tokens: &[i64], strings: &[u8], reports: &[i64], counts: Counts)
+    requires { (counts.tokens * record_width ≤ length tokens.now) × (counts.strings ≤ length strings.now) × (counts.reports * report_width ≤ length reports.now) }
 {
-    let t = n * RECORD_WIDTH;
-    let r = k * REPORT_WIDTH;
+    let t = counts.tokens * RECORD_WIDTH;
+    let r = counts.reports * REPORT_WIDTH;
     print_rows(b"token ", &tokens[..t], RECORD_WIDTH);
-    print_strings(&strings[..m]);
+    print_strings(&strings[..counts.strings]);
     print_rows(b"report ", &reports[..r], REPORT_WIDTH);
 }
 
@@ -156,12 +160,8 @@ fn answer_text(
     reports: &mut [i64],
 ) {
     match read_text(text, mode, limit, tokens, strings, reports) {
-        ReadText::Counts {
-            tokens: n,
-            strings: m,
-            reports: k,
-        } => print_counts(tokens, strings, reports, n, m, k),
-        ReadText::Refused(r) => print_refusal(r),
+        Ok(counts) => print_counts(tokens, strings, reports, counts),
+        Err(refusal) => print_refusal(refusal),
     }
 }
 
@@ -176,23 +176,24 @@ fn answer_token(
     reports: &mut [i64],
 ) {
     match read_token(text, place, mode, limit, tokens, strings, reports) {
-        ReadToken::One {
-            strings: m,
-            reports: k,
-            end,
-        } => {
-            print_counts(tokens, strings, reports, 1, m, k);
-            print_place(end);
+        Ok(one) => {
+            let counts = Counts {
+                tokens: 1,
+                strings: one.strings,
+                reports: one.reports,
+            };
+            print_counts(tokens, strings, reports, counts);
+            print_place(one.end);
         }
-        ReadToken::Refused(r) => print_refusal(r),
+        Err(refusal) => print_refusal(refusal),
     }
 }
 
 // Prints the place of an offset.
 fn answer_place(text: &[u8], offset: usize) {
     match place_of(text, offset) {
-        PlaceOf::At(place) => print_place(place),
-        PlaceOf::Refused(r) => print_refusal(r),
+        Ok(place) => print_place(place),
+        Err(refusal) => print_refusal(refusal),
     }
 }
 
@@ -207,155 +208,99 @@ fn answer_instant(run: &[u8]) {
 }
 
 // Lends buffers of the lengths asked for.
-fn answer(text: &[u8], how: How)
-    requires { Roomy how }
-{
+fn answer(text: &[u8], how: How) {
     let mut tokens = [0i64; TOKENS];
     let mut strings = [0u8; STRINGS];
     let mut reports = [0i64; REPORTS];
-    let mode = how.mode;
-    let limit = how.limit;
-    let t = how.tokens;
-    let s = how.strings;
-    let r = how.reports;
-    let asked = how.asked;
-    match asked {
+    let room = how.room;
+    match how.asked {
         Asked::Whole => answer_text(
             text,
-            mode,
-            limit,
-            &mut tokens[..t],
-            &mut strings[..s],
-            &mut reports[..r],
+            how.mode,
+            how.limit,
+            &mut tokens[..room.tokens],
+            &mut strings[..room.strings],
+            &mut reports[..room.reports],
         ),
         Asked::OneToken(place) => answer_token(
             text,
             place,
-            mode,
-            limit,
-            &mut tokens[..t],
-            &mut strings[..s],
-            &mut reports[..r],
+            how.mode,
+            how.limit,
+            &mut tokens[..room.tokens],
+            &mut strings[..room.strings],
+            &mut reports[..room.reports],
         ),
         Asked::PlaceOf(offset) => answer_place(text, offset),
         Asked::Instant => answer_instant(text),
     }
 }
 
-fn answer_line(line: &[u8], how: How)
-    requires { Roomy how }
-{
+fn answer_line(line: &[u8], how: How) {
     let a = parse::next_word(line, 0);
     let mut text = [0u8; 512];
     let n = escaped::read_bytes(&line[a..], &mut text);
     answer(&text[..n], how);
 }
 
-// The place or the lengths of buffers that a line asks for are its three numbers.
-#[derive(Clone, Copy)]
-struct Three {
-    a: u64,
-    b: u64,
-    c: u64,
-}
-
-fn three_of(line: &[u8]) -> Three {
+// The three numbers of a line that asks for a place or for lengths of buffers.
+fn three_of(line: &[u8]) -> [u64; 3] {
     let a = parse::next_word(line, 0);
     let b = parse::next_word(line, a);
     let c = parse::next_word(line, b);
-    Three {
-        a: parse::digits(&line[a..b]),
-        b: parse::digits(&line[b..c]),
-        c: parse::digits(&line[c..]),
+    [
+        parse::digits(&line[a..b]),
+        parse::digits(&line[b..c]),
+        parse::digits(&line[c..]),
+    ]
+}
+
+fn place_in(line: &[u8]) -> Place {
+    let [offset, line, column] = three_of(line);
+    Place {
+        offset: offset as usize,
+        line: line as usize,
+        column: column as usize,
     }
 }
 
-// The same buffers and limit, with this mode and question.
-fn asking(mode: Reading, asked: Asked, how: How) -> How
-    requires { Roomy how }
-    ensures { Roomy result }
-{
-    How {
-        mode,
-        limit: how.limit,
-        asked,
-        tokens: how.tokens,
-        strings: how.strings,
-        reports: how.reports,
+fn room_in(line: &[u8]) -> Room {
+    let [tokens, strings, reports] = three_of(line);
+    Room {
+        tokens: parse::at_most(tokens, TOKENS),
+        strings: parse::at_most(strings, STRINGS),
+        reports: parse::at_most(reports, REPORTS),
     }
-}
-
-fn from_place(line: &[u8], how: How) -> How
-    requires { Roomy how }
-    ensures { Roomy result }
-{
-    let n = three_of(line);
-    let place = Place {
-        offset: n.a as usize,
-        line: n.b as usize,
-        column: n.c as usize,
-    };
-    let mode = how.mode;
-    asking(mode, Asked::OneToken(place), how)
-}
-
-fn at_offset(line: &[u8], how: How) -> How
-    requires { Roomy how }
-    ensures { Roomy result }
-{
-    let mode = how.mode;
-    asking(mode, Asked::PlaceOf(parse::digits(line) as usize), how)
-}
-
-fn for_instant(how: How) -> How
-    requires { Roomy how }
-    ensures { Roomy result }
-{
-    let mode = how.mode;
-    asking(mode, Asked::Instant, how)
-}
-
-fn with_room(line: &[u8], how: How) -> How
-    ensures { Roomy result }
-{
-    let n = three_of(line);
-    let mut next = how;
-    next.tokens = parse::at_most(n.a, TOKENS);
-    next.strings = parse::at_most(n.b, STRINGS);
-    next.reports = parse::at_most(n.c, REPORTS);
-    next
-}
-
-fn with_limit(line: &[u8], how: How) -> How
-    requires { Roomy how }
-    ensures { Roomy result }
-{
-    let mut next = how;
-    next.limit = parse::digits(line) as usize;
-    next
-}
-
-fn with_mode(line: &[u8], how: How) -> How
-    requires { Roomy how }
-    ensures { Roomy result }
-{
-    let asked = how.asked;
-    asking(reading_of(line), asked, how)
 }
 
 // How the text after a line is read. The words of a question differ in their first letters.
-fn after_line(line: &[u8], how: How) -> How
-    requires { Roomy how }
-    ensures { Roomy result }
-{
+fn after_line(line: &[u8], how: How) -> How {
     match base::peek(line, 0) {
         b'c' => plainly(),
-        b'm' => with_mode(line, how),
-        b'l' => with_limit(line, how),
-        b'f' => from_place(line, how),
-        b'a' => at_offset(line, how),
-        b'i' => for_instant(how),
-        b'r' => with_room(line, how),
+        b'm' => How {
+            mode: reading_of(line),
+            ..how
+        },
+        b'l' => How {
+            limit: parse::digits(line) as usize,
+            ..how
+        },
+        b'f' => How {
+            asked: Asked::OneToken(place_in(line)),
+            ..how
+        },
+        b'a' => How {
+            asked: Asked::PlaceOf(parse::digits(line) as usize),
+            ..how
+        },
+        b'i' => How {
+            asked: Asked::Instant,
+            ..how
+        },
+        b'r' => How {
+            room: room_in(line),
+            ..how
+        },
         _ => how,
     }
 }
@@ -367,9 +312,7 @@ fn reading_of(line: &[u8]) -> Reading {
     Reading::Strict
 }
 
-fn one_line(line: &[u8], how: How)
-    requires { Roomy how }
-{
+fn one_line(line: &[u8], how: How) {
     io::write_all(STDOUT_FILENO, line);
     if base::peek(line, 0) == b't' {
         answer_line(line, how);

@@ -4,7 +4,7 @@
 ghost use Rattle.std.specs.Prelude.{◌≤◌, length};
 ghost use Rattle.listing_lines.specs.Listing.{Prints, Suffice};
 
-use listing_lines::{Listed, list};
+use listing_lines::list;
 use token::layout::RECORD_WIDTH;
 
 // The descriptors of standard input and standard output.
@@ -28,10 +28,7 @@ fn fill(
     requires { Suffice (length text.now) (length tokens.old) (length strings.old) (length out.old) }
     ensures { Prints text.now out.old result out.new }
 {
-    match list(text, tokens, strings, reports, out) {
-        Listed::Bytes(n) => n,
-        Listed::OutShort => 0,
-    }
+    list(text, tokens, strings, reports, out).unwrap()
 }
 
 fn print_listing(text: &[u8])

@@ -6,26 +6,26 @@ use Prim.Native.Nat.{ℕ, ◌≤◌, ◌<◌}
 use native.Mathlib.Omega.{arith}
 use lib.Dec.{ltb}
 use lib.ListN.{length}
+use Rattle.std.specs.Prelude.{Result, Ok, Err}
 use lib.Seq.{sets}
 use borrow.Author.Tests.{lt-ltb, le-ltb}
 use Rattle.base.specs.Buffers.{overlay}
 use Rattle.base.specs.Choice.{pick}
 use Rattle.base.proofs.Stores.{overlaid}
 use Rattle.listing_lines.specs.Listing.{Fills}
-use Rattle.listing_lines.specs.declared.Listed.{Listed}
-use Rattle.listing_lines.specs.declared.Listed.TheVariants.{Bytes, OutShort}
+use Rattle.listing_lines.specs.declared.OutShort.{OutShort}
 
-pub short_fills : (lines O : List ℕ) → length O < length lines → Fills lines O OutShort O
+pub short_fills : (lines O : List ℕ) → length O < length lines → Fills lines O (Err (record {})) O
 short_fills lines O h = let e = lt-ltb (length O) (length lines) h in record { answer = rw e; out = rw e }
 
-pub whole_fills : (lines O : List ℕ) {n : ℕ} {O' : List ℕ} → n ≡ length lines → length lines ≤ length O → O' ≡ sets O 0 lines → Fills lines O (Bytes n) O'
+pub whole_fills : (lines O : List ℕ) {n : ℕ} {O' : List ℕ} → n ≡ length lines → length lines ≤ length O → O' ≡ sets O 0 lines → Fills lines O (Ok n) O'
 whole_fills lines O q h s =
     let e = le-ltb (length O) (length lines) h in
-    record { answer = rw e (ap Bytes q); out = rw e (s ∙ overlaid lines O h) }
+    record { answer = rw (e, q); out = rw e (s ∙ overlaid lines O h) }
 
-pub short_out : {lines O : List ℕ} {r : Listed} {O' : List ℕ} → Fills lines O r O' → r ≡ OutShort → O' ≡ O
+pub short_out : {lines O : List ℕ} {r : Result ℕ OutShort} {O' : List ℕ} → Fills lines O r O' → r ≡ Err (record {}) → O' ≡ O
 short_out {lines} {O} {r} {O'} f e = go (ltb (length O) (length lines)) f.answer f.out
   where
-    go : (b : Bool) → r ≡ pick b OutShort (Bytes (length lines)) → O' ≡ pick b O (overlay lines O) → O' ≡ O
+    go : (b : Bool) → r ≡ pick b (Err (record {})) (Ok (length lines)) → O' ≡ pick b O (overlay lines O) → O' ≡ O
     go true a o = o
-    go false a o = let z : ◌≡◌ {A = ℕ} 0 1 = cc in absurd (omega arith)
+    go false a o = absurd cc

@@ -9,6 +9,7 @@ use native.Mathlib.Omega.{arith}
 use lib.Dec.{eqb, ltb}
 use lib.IntN.{ℤ}
 use lib.ListN.{length, drop}
+use Rattle.std.specs.Prelude.{Result, Ok, Err}
 use lib.Seq.{sets}
 use borrow.Author.Tests.{ltb-true, ltb-false, le-ltb}
 use Rattle.limits.specs.Limits.{max_bytes_literal_length}
@@ -17,30 +18,26 @@ use Rattle.reading.specs.Buffers.{record_rows, whole_laid}
 use Rattle.reading.specs.Refusals.{refusal_number, judge_of, after_judge}
 use Rattle.reading.specs.Answers.{read_text_answer, read_text_number}
 use Rattle.reading.specs.Calls.{ReadsText}
-use Rattle.reading.specs.declared.judge.Judged.{Judged}
-use Rattle.reading.specs.declared.judge.Judged.TheVariants.{Fit, Unfit}
+use Rattle.reading.specs.declared.counts.Counts.{Counts}
 use Rattle.reading.specs.declared.refusal.Refusal.{Refusal}
-use Rattle.reading.specs.declared.text.ReadText.{ReadText}
-use Rattle.reading.specs.declared.text.ReadText.TheVariants as text_is
 use Rattle.reading.proofs.Refusals.{number_some}
 use Rattle.reading.proofs.AnswerBounds.{counted}
 use Rattle.listing_lines.specs.Lines.{refused_line}
 use Rattle.listing_lines.specs.Listing.{token_lines, listing_of, lines_size, Fills, Untouched, Lists}
 use Rattle.listing_lines.specs.Rows.{row_lines}
-use Rattle.listing_lines.specs.declared.Listed.{Listed}
-use Rattle.listing_lines.specs.declared.Listed.TheVariants.{Bytes, OutShort}
+use Rattle.listing_lines.specs.declared.OutShort.{OutShort}
 use Rattle.listing_lines.proofs.Fills.{whole_fills, short_out}
 use Rattle.listing_lines.proofs.Lines.{rows_held}
 
 -- an answer accepts, or its number is not 0
-answered : (r : ReadText) → ((n : ℕ) × (s : ℕ) × (k : ℕ) × (r ≡ text_is.Counts n s k)) ⊎ (eqb (read_text_number r) 0 ≡ false)
-answered (text_is.Counts n s k) = inl (n, s, k, refl)
-answered (text_is.Refused x) = inr (number_some x)
+answered : (r : Result Counts Refusal) → ((c : Counts) × (r ≡ Ok c)) ⊎ (eqb (read_text_number r) 0 ≡ false)
+answered (Ok c) = inl (c, refl)
+answered (Err x) = inr (number_some x)
 
-module _ {text : List ℕ} {T : List ℤ} {S : List ℕ} {R : List ℤ} {r : ReadText} {T' : List ℤ} {S' : List ℕ} {R' : List ℤ}
+module _ {text : List ℕ} {T : List ℤ} {S : List ℕ} {R : List ℤ} {r : Result Counts Refusal} {T' : List ℤ} {S' : List ℕ} {R' : List ℤ}
     (w : ReadsText Strict max_bytes_literal_length text T S R r T' S' R') where
   -- lines that are those of the answer fill the out buffer as the contract says, where it is not shorter than the tokens' lines
-  lists : {lines O : List ℕ} {l : Listed} {O' : List ℕ} → lines_size text ≤ length O → Fills lines O l O' → lines ≡ listing_of text r
+  lists : {lines O : List ℕ} {l : Result ℕ OutShort} {O' : List ℕ} → lines_size text ≤ length O → Fills lines O l O' → lines ≡ listing_of text r
       → Lists text T S R O l T' S' R' O'
   lists h f e =
       record {
@@ -51,36 +48,37 @@ module _ {text : List ℕ} {T : List ℤ} {S : List ℕ} {R : List ℤ} {r : Rea
         };
       }
 
-  module _ {n s k : ℕ} (e : r ≡ text_is.Counts n s k) where
+  module _ {c : Counts} (e : r ≡ Ok c) where
     -- the lines of the rows that it counts are those of the tokens
-    pub rows_are : row_lines n T' ≡ token_lines text
+    pub rows_are : row_lines c.tokens T' ≡ token_lines text
     rows_are =
         let rs = (whole_laid Strict max_bytes_literal_length text).records in
         let d : T' ≡ record_rows rs ++ drop (length (record_rows rs)) T = rw e at w.lays.records in
-        rw ((counted w e).of_tokens, d) (rows_held rs (drop (length (record_rows rs)) T))
+        rw (counted w e, d) (rows_held rs (drop (length (record_rows rs)) T))
 
     -- which were counted before
     pub size_is : lines_size text ≡ length (token_lines text)
     unfolding read_text_answer lines_size
     size_is = go (judge_of text) _ (sym e ∙ w.answer)
       where
-        go : (j : Judged) (x : ReadText) → text_is.Counts n s k ≡ after_judge j text_is.Refused x
+        go : (j : Result (Unit {0}) Refusal) (x : Result Counts Refusal) → Ok c ≡ after_judge j Err x
             → after_judge j (λ i. 0) (length (token_lines text)) ≡ length (token_lines text)
-        go (Unfit i) x q = cc
-        go Fit x q = refl
+        go (Err i) x q = cc
+        go (Ok i) x q = refl
 
-    pub tokens_listed : {O : List ℕ} {size : ℕ} {O' : List ℕ} → size ≡ lines_size text → lines_size text ≤ length O → O' ≡ sets O 0 (row_lines n T')
-        → Lists text T S R O (Bytes size) T' S' R' O'
+    pub tokens_listed : {O : List ℕ} {size : ℕ} {O' : List ℕ} → size ≡ lines_size text → lines_size text ≤ length O → O' ≡ sets O 0 (row_lines c.tokens T')
+        → Lists text T S R O (Ok size) T' S' R' O'
     tokens_listed {O} q h o =
         let z : listing_of text r ≡ token_lines text = rw e in
         lists h (whole_fills (token_lines text) O (q ∙ size_is) (rw size_is at h) (o ∙ ap (sets O 0) rows_are)) (sym z)
 
-  pub refusal_listed : {x : Refusal} → r ≡ text_is.Refused x → (number : ℕ) → number ≡ refusal_number x → {O : List ℕ} → lines_size text ≤ length O
-      → {l : Listed} {O' : List ℕ} → Fills (refused_line number) O l O' → Lists text T S R O l T' S' R' O'
+  pub refusal_listed : {x : Refusal} → r ≡ Err x → (number : ℕ) → number ≡ refusal_number x → {O : List ℕ} → lines_size text ≤ length O
+      → {l : Result ℕ OutShort} {O' : List ℕ} → Fills (refused_line number) O l O' → Lists text T S R O l T' S' R' O'
   refusal_listed {x} e number q h f = lists h f (rw (e, q, number_some x))
 
 -- a short out buffer leaves everything as it was
-pub short_listed : (text : List ℕ) (T : List ℤ) (S : List ℕ) (R : List ℤ) (O : List ℕ) → length O < lines_size text → Lists text T S R O OutShort T S R O
+pub short_listed : (text : List ℕ) (T : List ℤ) (S : List ℕ) (R : List ℤ) (O : List ℕ) → length O < lines_size text
+    → Lists text T S R O (Err (record {})) T S R O
 short_listed text T S R O h =
     record {
       short = λ k. record { answer = refl; tokens = refl; strings = refl; reports = refl; out = refl };
@@ -88,19 +86,18 @@ short_listed text T S R O h =
     }
 
 -- whenever the answer is that the out buffer is short, nothing is written to any buffer
-module _ {text : List ℕ} {T : List ℤ} {S : List ℕ} {R : List ℤ} {O : List ℕ} {r : Listed} {T' : List ℤ} {S' : List ℕ} {R' : List ℤ} {O' : List ℕ}
-    (w : Lists text T S R O r T' S' R' O') (e : r ≡ OutShort) where
+module _ {text : List ℕ} {T : List ℤ} {S : List ℕ} {R : List ℤ} {O : List ℕ} {r : Result ℕ OutShort} {T' : List ℤ} {S' : List ℕ} {R' : List ℤ}
+    {O' : List ℕ} (w : Lists text T S R O r T' S' R' O') (e : r ≡ Err (record {})) where
   -- after a reading it was the line of a refusal that was too long: the tokens' lines have been measured before
-  refused : (x : ReadText) → lines_size text ≤ length O → ReadsText Strict max_bytes_literal_length text T S R x T' S' R' → Fills (listing_of text x) O r O'
+  refused : (x : Result Counts Refusal) → lines_size text ≤ length O → ReadsText Strict max_bytes_literal_length text T S R x T' S' R' → Fills (listing_of text x) O r O'
       → Untouched T S R O r T' S' R' O'
-  refused x h u f = ⊎_elim (λ a. accepted a.3) (λ z. kept z) (answered x)
+  refused x h u f = ⊎_elim (λ a. accepted a.1) (λ z. kept z) (answered x)
     where
-      accepted : {n s k : ℕ} → x ≡ text_is.Counts n s k → Untouched T S R O r T' S' R' O'
+      accepted : {c : Counts} → x ≡ Ok c → Untouched T S R O r T' S' R' O'
       accepted a =
           let q : ltb (length O) (length (token_lines text)) ≡ false = le-ltb _ _ (rw (size_is u a) at h) in
-          let b : r ≡ Bytes (length (token_lines text)) = rw (a, q) at f.answer in
-          let z : ◌≡◌ {A = ℕ} 0 1 = cc in
-          absurd (omega arith)
+          let b : r ≡ Ok (length (token_lines text)) = rw (a, q) at f.answer in
+          absurd cc
 
       kept : eqb (read_text_number x) 0 ≡ false → Untouched T S R O r T' S' R' O'
       kept z =

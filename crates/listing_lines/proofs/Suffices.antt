@@ -6,7 +6,8 @@ use Prim.Native.Nat.{ℕ, ◌+◌, ◌*◌, ◌≤◌, ◌<◌}
 use native.Mathlib.Omega.{arith}
 use lib.ListN.{length, drop, length-append}
 use lib.IntN.{ℤ, pos}
-use borrow.Author.Tests.{le-ltb, le-leb}
+use Rattle.std.specs.Prelude.{Result, Ok, Err, IsOk}
+use borrow.Author.Tests.{le-ltb}
 use Rattle.base.specs.Buffers.{overlay}
 use Rattle.limits.specs.Limits.{max_message_size, max_bytes_literal_length}
 use Rattle.token.specs.Kind.{kind_number}
@@ -21,20 +22,20 @@ use Rattle.lexer.specs.declared.next.Token.{Token}
 use Rattle.notation.specs.Decimal.{number_text}
 use Rattle.notation.proofs.Digits.{digits_few, number_most}
 use Rattle.reading.specs.Tokens.{tokens}
-use Rattle.reading.specs.Buffers.{record_of, records_of, whole_laid}
-use Rattle.reading.specs.Refusals.{refusal_number, after_check, judge_of, after_judge}
+use Rattle.reading.specs.Buffers.{record_of, records_of, whole_laid, counts_of}
+use Rattle.reading.specs.Refusals.{refusal_number, after_check, judge_of, after_judge, room_of}
 use Rattle.reading.specs.Answers.{read_text_answer}
 use Rattle.reading.specs.Passes.{Room, suffice_for}
-use Rattle.reading.specs.declared.judge.Judged.TheVariants.{Fit, Unfit}
+use Rattle.reading.specs.declared.counts.Counts.{Counts}
+use Rattle.reading.specs.declared.refusal.Refusal.{Refusal}
 use Rattle.reading.specs.declared.refusal.Refusal.TheVariants.{NotUtf8}
-use Rattle.reading.specs.declared.text.ReadText.TheVariants as text_is
 use Rattle.reading.proofs.NextToken.{Read, start_bounded}
 use Rattle.reading.proofs.From.{by_each}
 use Rattle.reading.proofs.Fits.{tokens_fit, suffice_room}
+use Rattle.reading.proofs.Refusals.{room_answer}
 use Rattle.listing_lines.specs.Lines.{line_text, line_numbers, lines_of, refused_line}
 use Rattle.listing_lines.specs.Listing.{answer_of, token_lines, listing_of, lines_size, Fills, Lists, printed, Suffice, Prints}
-use Rattle.listing_lines.specs.declared.Listed.{Listed}
-use Rattle.listing_lines.specs.declared.Listed.TheVariants.{Bytes, OutShort}
+use Rattle.listing_lines.specs.declared.OutShort.{OutShort}
 use Rattle.listing_lines.proofs.Lines.{refused_length}
 
 -- a number below 10,000 has at most four digits, one below 100 at most two
@@ -69,39 +70,32 @@ module _ (text : List ℕ) (h : length text ≤ 8192) where
 
 module _ (text : List ℕ) (nt ns nr no : ℕ) (h : Suffice (length text) nt ns no) where
   room : Room (whole_laid Strict max_bytes_literal_length text) nt ns nr
-  unfolding suffice_for
+  unfolding room_of
   room =
       suffice_room Strict max_bytes_literal_length text nt ns nr
       (rw (
-        le-leb ((length text + 1) * record_width) nt (omega (arith, h.text, h.tokens)),
-        le-leb (length text) ns (omega (arith, h.text, h.strings)),
-        le-leb (0 * report_width) nr (omega arith),
+        le-ltb nt ((length text + 1) * record_width) (omega (arith, h.text, h.tokens)),
+        le-ltb ns (length text) (omega (arith, h.text, h.strings)),
+        le-ltb nr (0 * report_width) (omega arith),
       ))
 
   -- the reading is refused for bad UTF-8 alone
   pub printed_is : listing_of text (answer_of text nt ns nr) ≡ printed text
   unfolding read_text_answer judge_of printed
   printed_is =
-      rw (
-        le-ltb max_message_size (length text) (omega (arith, h.text)),
-        le-ltb _ _ room.for_tokens,
-        le-ltb _ _ room.for_strings,
-        le-ltb _ _ room.for_reports,
-      )
-      (go (check_of text) _ _ _)
+      rw (le-ltb max_message_size (length text) (omega (arith, h.text)), room_answer room) (go (check_of text) _)
     where
-      go : (v : Verdict) (i j k : ℕ)
-          → listing_of text (after_judge (after_check v (λ n. Unfit (NotUtf8 n)) Fit) text_is.Refused (text_is.Counts i j k))
+      go : (v : Verdict) (c : Counts) → listing_of text (after_judge (after_check v (λ n. Err (NotUtf8 n)) (Ok tt)) Err (Ok c))
           ≡ after_check v (λ n. refused_line (refusal_number (NotUtf8 n))) (token_lines text)
-      go WellFormed i j k = refl
-      go (IllFormed n) i j k = refl
+      go WellFormed c = refl
+      go (IllFormed n) c = refl
 
   -- the out buffer is not shorter than the lines
   pub lines_fit_out : lines_size text ≤ no
   unfolding lines_size judge_of
   lines_fit_out = rw (le-ltb max_message_size (length text) (omega (arith, h.text))) (go (check_of text))
     where
-      go : (v : Verdict) → after_judge (after_check v (λ n. Unfit (NotUtf8 n)) Fit) (λ r. 0) (length (token_lines text)) ≤ no
+      go : (v : Verdict) → after_judge (after_check v (λ n. Err (NotUtf8 n)) (Ok tt)) (λ r. 0) (length (token_lines text)) ≤ no
       go WellFormed = omega (arith, lines_most text h.text, h.out)
       go (IllFormed n) = omega arith
 
@@ -115,8 +109,8 @@ module _ (text : List ℕ) (nt ns nr no : ℕ) (h : Suffice (length text) nt ns 
       go (IllFormed n) = omega (arith, refused_length 2, number_most (pos 2), h.out)
 
 -- where the buffers suffice, the listing is what is printed, and no buffer is short
-module _ {text : List ℕ} {T : List ℤ} {S : List ℕ} {R : List ℤ} {O : List ℕ} {r : Listed} {T' : List ℤ} {S' : List ℕ} {R' : List ℤ} {O' : List ℕ}
-    (h : Suffice (length text) (length T) (length S) (length O)) (w : Lists text T S R O r T' S' R' O') where
+module _ {text : List ℕ} {T : List ℤ} {S : List ℕ} {R : List ℤ} {O : List ℕ} {r : Result ℕ OutShort} {T' : List ℤ} {S' : List ℕ} {R' : List ℤ}
+    {O' : List ℕ} (h : Suffice (length text) (length T) (length S) (length O)) (w : Lists text T S R O r T' S' R' O') where
   fits : length (printed text) ≤ length O
   fits = printed_fits text (length T) (length S) (length R) (length O) h
 
@@ -125,14 +119,14 @@ module _ {text : List ℕ} {T : List ℤ} {S : List ℕ} {R : List ℤ} {O : Lis
       rw (printed_is text (length T) (length S) (length R) (length O) h) at
       (w.enough (omega (arith, lines_fit_out text (length T) (length S) (length R) (length O) h))).fills
 
-  bytes_listed : r ≡ Bytes (length (printed text))
+  bytes_listed : r ≡ Ok (length (printed text))
   bytes_listed = rw (le-ltb _ _ fits) at filled.answer
 
-  pub prints : {n : ℕ} → r ≡ Bytes n → Prints text O n O'
+  pub prints : {n : ℕ} → r ≡ Ok n → Prints text O n O'
   prints {n} e =
       let q : n ≡ length (printed text) = cc bytes_listed in
       let o : O' ≡ overlay (printed text) O = rw (le-ltb _ _ fits) at filled.out in
       record { count = q; inside = omega (arith, ap length o, length-append (printed text) (drop (length (printed text)) O)); out = o }
 
-  pub never_short : r ≡ OutShort → ⊥
-  never_short e = let z : ◌≡◌ {A = ℕ} 0 1 = cc bytes_listed in omega arith
+  pub never_short : IsOk r
+  never_short = rw bytes_listed

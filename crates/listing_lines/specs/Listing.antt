@@ -1,5 +1,5 @@
 -- What listing a text answers and writes, for every input.
-use Rattle.std.specs.Prelude.{◌≡◌, List, ℕ, ◌*◌, ◌≤◌, ◌<◌, eqb, ltb, ℤ, length}
+use Rattle.std.specs.Prelude.{◌≡◌, List, ℕ, ◌*◌, ◌≤◌, ◌<◌, eqb, ltb, ℤ, length, Result, Ok, Err}
 use Rattle.base.specs.Buffers.{overlay}
 use Rattle.base.specs.Choice.{pick}
 use Rattle.limits.specs.Limits.{max_bytes_literal_length}
@@ -10,18 +10,18 @@ use Rattle.reading.specs.Buffers.{whole_laid}
 use Rattle.reading.specs.Refusals.{refusal_number, after_check, judge_of, after_judge}
 use Rattle.reading.specs.Answers.{read_text_answer, read_text_number}
 use Rattle.reading.specs.Calls.{ReadsText}
-use Rattle.reading.specs.declared.text.ReadText.{ReadText}
+use Rattle.reading.specs.declared.counts.Counts.{Counts}
+use Rattle.reading.specs.declared.refusal.Refusal.{Refusal}
 use Rattle.reading.specs.declared.refusal.Refusal.TheVariants.{NotUtf8}
 use Rattle.listing_lines.specs.Lines.{lines_of, refused_line}
-use Rattle.listing_lines.specs.declared.Listed.{Listed}
-use Rattle.listing_lines.specs.declared.Listed.TheVariants.{Bytes, OutShort}
+use Rattle.listing_lines.specs.declared.OutShort.{OutShort}
 
--- Types of the code (src/lib.rt). `Listed`: `Bytes n`, how many were written, or `OutShort`, the out buffer is shorter than the lines.
--- Types that other files explain: `Reading` in lexer/specs/Reading.antt; `ReadText` in reading/specs/Answers.antt; `Refusal` in
+-- Types of the code (src/lib.rt). `OutShort`: the out buffer is shorter than the lines.
+-- Types that other files explain: `Reading` in lexer/specs/Reading.antt; `Counts` in reading/specs/Buffers.antt; `Refusal` in
 -- reading/specs/Refusals.antt.
 
 -- "strict, default limit": the whole reading with buffers of nt numbers, ns bytes and nr numbers
-abbrev pub answer_of : List ℕ → ℕ → ℕ → ℕ → ReadText
+abbrev pub answer_of : List ℕ → ℕ → ℕ → ℕ → Result Counts Refusal
 answer_of text nt ns nr = read_text_answer Strict max_bytes_literal_length text nt ns nr
 
 -- the lines of the text's tokens
@@ -29,12 +29,12 @@ abbrev pub token_lines : List ℕ → List ℕ
 token_lines text = lines_of (whole_laid Strict max_bytes_literal_length text).records
 
 -- what is listed where a reading answers r: "one token a line", "or `refused` and the number"
-abbrev pub listing_of : List ℕ → ReadText → List ℕ
+abbrev pub listing_of : List ℕ → Result Counts Refusal → List ℕ
 listing_of text r = pick (eqb (read_text_number r) 0) (token_lines text) (refused_line (read_text_number r))
 
 -- these lines from the out buffer's start, and how many bytes they have; or the buffer as it was, where it is shorter
-pub record Fills (lines O : List ℕ) (r : Listed) (O' : List ℕ) : Type 0 where
-  pub answer : r ≡ pick (ltb (length O) (length lines)) OutShort (Bytes (length lines))
+pub record Fills (lines O : List ℕ) (r : Result ℕ OutShort) (O' : List ℕ) : Type 0 where
+  pub answer : r ≡ pick (ltb (length O) (length lines)) (Err (record {})) (Ok (length lines))
   pub out : O' ≡ pick (ltb (length O) (length lines)) O (overlay lines O)
 
 -- how many bytes the lines of a text's tokens have; 0 where the text is refused by its length or as no UTF-8
@@ -42,22 +42,22 @@ unfoldable pub lines_size : List ℕ → ℕ
 lines_size text = after_judge (judge_of text) (λ r. 0) (length (token_lines text))
 
 -- the out buffer is short, and nothing is written to any buffer
-pub record Untouched (T : List ℤ) (S : List ℕ) (R : List ℤ) (O : List ℕ) (r : Listed)
+pub record Untouched (T : List ℤ) (S : List ℕ) (R : List ℤ) (O : List ℕ) (r : Result ℕ OutShort)
     (T' : List ℤ) (S' : List ℕ) (R' : List ℤ) (O' : List ℕ) : Type 0 where
-  pub answer : r ≡ OutShort
+  pub answer : r ≡ Err (record {})
   pub tokens : T' ≡ T
   pub strings : S' ≡ S
   pub reports : R' ≡ R
   pub out : O' ≡ O
 
 -- the text is read, and what is listed of it fills the out buffer
-pub record Filled (text : List ℕ) (T : List ℤ) (S : List ℕ) (R : List ℤ) (O : List ℕ) (r : Listed)
+pub record Filled (text : List ℕ) (T : List ℤ) (S : List ℕ) (R : List ℤ) (O : List ℕ) (r : Result ℕ OutShort)
     (T' : List ℤ) (S' : List ℕ) (R' : List ℤ) (O' : List ℕ) : Type 0 where
   pub reads : ReadsText Strict max_bytes_literal_length text T S R (answer_of text (length T) (length S) (length R)) T' S' R'
   pub fills : Fills (listing_of text (answer_of text (length T) (length S) (length R))) O r O'
 
 -- the contract: an out buffer that is shorter than the lines is told before anything is written
-pub record Lists (text : List ℕ) (T : List ℤ) (S : List ℕ) (R : List ℤ) (O : List ℕ) (r : Listed)
+pub record Lists (text : List ℕ) (T : List ℤ) (S : List ℕ) (R : List ℤ) (O : List ℕ) (r : Result ℕ OutShort)
     (T' : List ℤ) (S' : List ℕ) (R' : List ℤ) (O' : List ℕ) : Type 0 where
   pub short : length O < lines_size text → Untouched T S R O r T' S' R' O'
   pub enough : lines_size text ≤ length O → Filled text T S R O r T' S' R' O'

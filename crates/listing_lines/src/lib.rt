@@ -12,23 +12,19 @@ ghost use Rattle.listing_lines.specs.Lines.{line_text, line_numbers, refused_lin
 ghost use Rattle.listing_lines.specs.Listing.{token_lines, lines_size, Fills, Lists};
 ghost use Rattle.listing_lines.specs.Rows.{line_at, row_lines};
 
+use base::answer::Numbered;
 use lexer::next::{Token, next_token};
 use lexer::reading::Reading;
 use limits::default_bytes_limit;
 use notation::numbers::{number_size, separator_before, write_number};
-use reading::judge::{Judged, judge};
-use reading::text::{ReadText, read_text};
+use reading::judge::judge;
+use reading::text::read_text;
 use token::layout::RECORD_WIDTH;
 use token::place::Place;
 
-// What listing a text answers.
-#[derive(Clone, Copy)]
-pub enum Listed {
-    // How many bytes were written.
-    Bytes(usize),
-    // The out buffer is shorter than the listing.
-    OutShort,
-}
+// The out buffer is shorter than the listing.
+#[derive(Clone, Copy, PartialEq, Eq, Debug)]
+pub struct OutShort;
 
 // The numbers of the line of the record at `i`.
 fn line_numbers(tokens: &[i64], i: usize) -> [i64; 7]
@@ -51,11 +47,8 @@ fn line_size(row: &[i64]) -> usize
     ensures { result ≡ length (line_text row.now) }
 {
     let mut size = 0;
-    let mut k = 0;
-    while k < row.len() {
-        let z = row[k];
+    for &z in row {
         size += number_size(z) + 1;
-        k += 1;
     }
     size
 }
@@ -66,11 +59,8 @@ fn put_line(row: &[i64], out: &mut [u8], at: usize) -> usize
     ensures { (result ≡ at + length (line_text row.now)) × (out.new ≡ sets out.old at (line_text row.now)) }
 {
     let mut end = at;
-    let mut k = 0;
-    while k < row.len() {
-        let z = row[k];
-        k += 1;
-        end = write_number(out, end, z, separator_before(row.len() - k));
+    for k in 0..row.len() {
+        end = write_number(out, end, row[k], separator_before(row.len() - (k + 1)));
     }
     end
 }
@@ -80,17 +70,14 @@ fn token_numbers(t: Token) -> [i64; 7]
     requires { RecordFits (record_of 0 t) }
     ensures { result ≡ line_numbers (record_of 0 t) }
 {
-    let kind = t.kind;
-    let number = kind.number();
-    let nanos = t.nanos;
     [
         t.start.offset as i64,
         t.end.offset as i64,
         t.start.line as i64,
         t.start.column as i64,
-        number as i64,
+        t.kind.number() as i64,
         t.reason as i64,
-        nanos,
+        t.nanos,
     ]
 }
 
@@ -104,10 +91,8 @@ fn lines_size(text: &[u8]) -> usize
     let mut size = 0;
     loop {
         let t = next_token(text, place, Reading::Strict, limit);
-        let kind = t.kind;
-        let row = token_numbers(t);
-        size += line_size(&row);
-        if kind.is_eof() {
+        size += line_size(&token_numbers(t));
+        if t.kind.is_eof() {
             return size;
         }
         place = t.end;
@@ -119,8 +104,8 @@ fn listing_size(text: &[u8]) -> usize
     ensures { result ≡ lines_size text.now }
 {
     match judge(text) {
-        Judged::Fit => lines_size(text),
-        Judged::Unfit(_) => 0,
+        Ok(()) => lines_size(text),
+        Err(_) => 0,
     }
 }
 
@@ -130,53 +115,47 @@ fn put_lines(tokens: &[i64], count: usize, out: &mut [u8])
     ensures { out.new ≡ sets out.old 0 (row_lines count tokens.now) }
 {
     let mut end = 0;
-    let mut i = 0;
-    while i < count {
-        let row = line_numbers(tokens, i * RECORD_WIDTH);
-        end = put_line(&row, out, end);
-        i += 1;
+    for i in 0..count {
+        end = put_line(&line_numbers(tokens, i * RECORD_WIDTH), out, end);
     }
 }
 
 // Writes `refused` and the number, where the buffer holds them.
-fn put_refusal(number: u8, out: &mut [u8]) -> Listed
+fn put_refusal(number: u8, out: &mut [u8]) -> Result<usize, OutShort>
     ensures { Fills (refused_line number) out.old result out.new }
 {
     let z = number as i64;
     let size = 9 + number_size(z);
     if out.len() < size {
-        return Listed::OutShort;
+        return Err(OutShort);
     }
     base::copy(out, 0, b"refused ");
     write_number(out, 8, z, b'\n');
-    Listed::Bytes(size)
+    Ok(size)
 }
 
 // Lists a text, which is read strictly and with the default limit: the lines of its tokens, or the line of the refusal, from the out
-// buffer's start. Where that buffer is short, nothing is written to any buffer. The other three are the reading's.
+// buffer's start, and gives how many bytes they have. Where that buffer is short, nothing is written to any buffer. The other three are the
+// reading's.
 pub fn list(
     text: &[u8],
     tokens: &mut [i64],
     strings: &mut [u8],
     reports: &mut [i64],
     out: &mut [u8],
-) -> Listed
+) -> Result<usize, OutShort>
     ensures { Lists text.now tokens.old strings.old reports.old out.old result tokens.new strings.new reports.new out.new }
 {
     let size = listing_size(text);
     if out.len() < size {
-        return Listed::OutShort;
+        return Err(OutShort);
     }
     let limit = default_bytes_limit();
     match read_text(text, Reading::Strict, limit, tokens, strings, reports) {
-        ReadText::Counts {
-            tokens: count,
-            strings: _,
-            reports: _,
-        } => {
-            put_lines(tokens, count, out);
-            Listed::Bytes(size)
+        Ok(counts) => {
+            put_lines(tokens, counts.tokens, out);
+            Ok(size)
         }
-        ReadText::Refused(r) => put_refusal(r.number(), out),
+        Err(refusal) => put_refusal(refusal.number(), out),
     }
 }

@@ -1,5 +1,5 @@
 -- Helper definitions, for proofs and inner contracts alone: numbers that fit an answer.
-use Rattle.std.specs.Prelude.{List, ℕ, ◌<◌, get_or}
+use Rattle.std.specs.Prelude.{List, [], ◌∷◌, ℕ, ◌<◌}
 use Rattle.rfc3339.specs.declared.parse.Instant.{Instant}
 use Rattle.rfc3339.specs.declared.parse.Instant.TheVariants as instant
 
@@ -7,7 +7,8 @@ use Rattle.rfc3339.specs.declared.parse.Instant.TheVariants as instant
 
 -- a signed 64-bit number can hold each
 abbrev pub Fit63 : List ℕ → Type 0
-Fit63 vs = (k : ℕ) → get_or vs k 0 < 0x8000000000000000
+Fit63 [] = Unit {0}
+Fit63 (v ∷ vs) = (v < 0x8000000000000000) × Fit63 vs
 
 -- the nanoseconds of an instant, or 0
 abbrev pub instant_nanos : Instant → ℕ

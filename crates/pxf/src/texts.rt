@@ -31,8 +31,7 @@ pub extern "C" fn pxf_read_text(
 {
     let m = reading_of(mode);
     let r = reading::text::read_text(text, m, limit as usize, tokens, strings, reports);
-    *answer = values::of_text(r);
-    r.number()
+    values::give(r, answer)
 }
 
 // Reads the token after a place: `answer` gets 1, the counts of string bytes and reports, and the place at the token's end.
@@ -58,8 +57,7 @@ pub extern "C" fn pxf_read_token(
         column: column as usize,
     };
     let r = reading::one::read_token(text, place, m, limit as usize, tokens, strings, reports);
-    *answer = values::of_token(r);
-    r.number()
+    values::give(r, answer)
 }
 
 // The place of an offset: `answer` gets its offset, line and column.
@@ -68,6 +66,5 @@ pub extern "C" fn pxf_place_of(text: &[u8], offset: u64, answer: &mut [i64; 6]) 
     ensures { PlaceGiven offset text.now result answer.new }
 {
     let r = reading::place::place_of(text, offset as usize);
-    *answer = values::of_place(r);
-    r.number()
+    values::give(r, answer)
 }

@@ -1,77 +1,101 @@
 // The six numbers of an answer: its values, and zeros.
-ghost use Rattle.std.specs.Prelude.{◌≡◌, ◌<◌};
-ghost use Rattle.reading.specs.Answers.{read_text_values, read_token_values, place_of_values};
+#![tactic(auto, using(base::proofs::Signed::signed))]
+
+ghost use Rattle.std.specs.Prelude.{◌≡◌, ◌<◌, List, ℕ};
+ghost use Rattle.base.specs.Answers.{answer_number};
+ghost use Rattle.reading.specs.Answers.{answer_values, counts_values, token_values, place_values};
 ghost use Rattle.reading.specs.Refusals.{refusal_values};
 ghost use Rattle.pxf.specs.Texts.{six_of};
 ghost use Rattle.pxf.specs.Timestamps.{instant_numbers};
 ghost use Rattle.pxf.specs.Helpers.{Fit63, instant_nanos};
 
-use reading::one::ReadToken;
-use reading::place::PlaceOf;
+use base::answer::Numbered;
+use reading::counts::Counts;
+use reading::one::OneToken;
 use reading::refusal::Refusal;
-use reading::text::ReadText;
 use rfc3339::parse::Instant;
+use token::place::Place;
 
-// The values of a refusal.
-fn of_refusal(r: Refusal) -> [i64; 6]
-    requires { Fit63 (refusal_values r) }
-    ensures { result ≡ six_of (refusal_values r) }
-{
-    match r {
-        Refusal::NotUtf8(at) => [at as i64, 0, 0, 0, 0, 0],
-        Refusal::TooLong => [0, 0, 0, 0, 0, 0],
-        Refusal::NoPlace => [0, 0, 0, 0, 0, 0],
-        Refusal::TokensShort => [0, 0, 0, 0, 0, 0],
-        Refusal::StringsShort => [0, 0, 0, 0, 0, 0],
-        Refusal::ReportsShort => [0, 0, 0, 0, 0, 0],
+// What a call gives, or why it is refused, as the numbers of an answer.
+pub trait Values: Copy {
+    ghost values_of: { Self → List ℕ };
+
+    // Its values, and zeros.
+    fn six(self) -> [i64; 6]
+        requires { Fit63 (values_of self) }
+        ensures { result ≡ six_of (values_of self) };
+}
+
+impl Values for Counts {
+    ghost values_of = { counts_values };
+
+    fn six(self) -> [i64; 6] {
+        [
+            self.tokens as i64,
+            self.strings as i64,
+            self.reports as i64,
+            0,
+            0,
+            0,
+        ]
     }
 }
 
-// The values of a whole reading.
-pub fn of_text(r: ReadText) -> [i64; 6]
-    requires { Fit63 (read_text_values r) }
-    ensures { result ≡ six_of (read_text_values r) }
-{
-    match r {
-        ReadText::Counts {
-            tokens,
-            strings,
-            reports,
-        } => [tokens as i64, strings as i64, reports as i64, 0, 0, 0],
-        ReadText::Refused(x) => of_refusal(x),
-    }
-}
+impl Values for OneToken {
+    ghost values_of = { token_values };
 
-// The values of one token.
-pub fn of_token(r: ReadToken) -> [i64; 6]
-    requires { Fit63 (read_token_values r) }
-    ensures { result ≡ six_of (read_token_values r) }
-{
-    match r {
-        ReadToken::One {
-            strings,
-            reports,
-            end,
-        } => [
+    fn six(self) -> [i64; 6] {
+        [
             1,
-            strings as i64,
-            reports as i64,
-            end.offset as i64,
-            end.line as i64,
-            end.column as i64,
-        ],
-        ReadToken::Refused(x) => of_refusal(x),
+            self.strings as i64,
+            self.reports as i64,
+            self.end.offset as i64,
+            self.end.line as i64,
+            self.end.column as i64,
+        ]
     }
 }
 
-// The values of the place of an offset.
-pub fn of_place(r: PlaceOf) -> [i64; 6]
-    requires { Fit63 (place_of_values r) }
-    ensures { result ≡ six_of (place_of_values r) }
+impl Values for Place {
+    ghost values_of = { place_values };
+
+    fn six(self) -> [i64; 6] {
+        [
+            self.offset as i64,
+            self.line as i64,
+            self.column as i64,
+            0,
+            0,
+            0,
+        ]
+    }
+}
+
+impl Values for Refusal {
+    ghost values_of = { refusal_values };
+
+    fn six(self) -> [i64; 6] {
+        match self {
+            Refusal::NotUtf8(at) => [at as i64, 0, 0, 0, 0, 0],
+            _ => [0; 6],
+        }
+    }
+}
+
+// Sets the six numbers of an answer, and gives its number.
+pub fn give<T: Values, E: Values + Numbered>(r: Result<T, E>, answer: &mut [i64; 6]) -> u8
+    requires { Fit63 (answer_values T.values_of E.values_of r) }
+    ensures { (result ≡ answer_number E.number_of r) × (answer.new ≡ six_of (answer_values T.values_of E.values_of r)) }
 {
     match r {
-        PlaceOf::At(p) => [p.offset as i64, p.line as i64, p.column as i64, 0, 0, 0],
-        PlaceOf::Refused(x) => of_refusal(x),
+        Ok(given) => {
+            *answer = given.six();
+            0
+        }
+        Err(refusal) => {
+            *answer = refusal.six();
+            refusal.number()
+        }
     }
 }
 

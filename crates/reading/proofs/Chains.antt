@@ -2,7 +2,7 @@
 -- place none is refused, by induction on the tokens, each of which ends at a place (`next_utf8`). Assumes nothing.
 use mathlib.Core.Path.{◌≡◌, refl, sym, ap, ◌∙◌}
 use mathlib.Core.Bool.{Bool, true, false}
-use mathlib.Core.List.{List}
+use mathlib.Core.List.{List, [], ◌∷◌}
 use Prim.Native.Nat.{ℕ, ◌+◌, ◌*◌, ◌≤◌}
 use native.Mathlib.Nat.{pos_of_ne-zero}
 use native.Mathlib.Omega.{arith}
@@ -28,13 +28,14 @@ use Rattle.lexer.specs.declared.next.Token.{Token}
 use Rattle.lexer.specs.declared.reading.Reading.{Reading}
 use Rattle.lexer.proofs.FoundToken.{next_utf8}
 use Rattle.reading.specs.Tokens.{tokens_from, tokens}
-use Rattle.reading.specs.Buffers.{record_of, records_of, strings_of, reports_of, record_rows, Laid, laid_from, whole_laid}
+use Rattle.reading.specs.Buffers.{record_of, records_of, strings_of, reports_of, record_rows, Laid, laid_from, whole_laid, one_laid}
+use Rattle.reading.specs.Passes.{Room}
 use Rattle.reading.specs.Answers.{is_place}
 use Rattle.reading.specs.Chain.{of_one, Call, with_value, moved_by, Calls, last, more, ChainGivesWhole, ChainRuns}
 use Rattle.reading.proofs.NextToken.{string_at, reports_at, numbers_at, Read, string_few, reads, end_offset}
 use Rattle.reading.proofs.From.{from_eof, from_more, by_tokens}
-use Rattle.reading.proofs.Rows.{same_record, same_reports, one_strings, one_reports, held_records, held_strings, held_reports}
-use Rattle.reading.proofs.Refusals.{fits}
+use Rattle.reading.proofs.Rows.{same_record, same_reports, records_length, one_strings, one_reports, one_count, held_records, held_strings, held_reports}
+use Rattle.reading.proofs.Refusals.{fits, room_answer}
 use Rattle.reading.proofs.Places.{place_is, is_place_lem}
 use Rattle.reading.proofs.TokenAnswers.{done}
 use Rattle.reading.proofs.AnswerBounds.{one_counted, one_end}
@@ -134,16 +135,20 @@ module _ (m : Reading) (limit : ℕ) (text : List ℕ) where
           let t = token p in
           let r = reads m limit text p.offset (place_is text p f).inside in
           let z = string_few r in
+          let held : Room (one_laid m limit text p.offset) (length T) (length S) (length R) =
+          record {
+            for_tokens = omega (arith, records_length 0 (t ∷ []));
+            for_strings = omega (arith, ap length (one_strings m limit text t));
+            for_reports = omega (arith, one_count m limit text t);
+          } in
           let d =
           done
           (record {
             fit = fits text h g;
             place = f;
-            tokens = rt;
             token = refl;
             size = refl;
-            strings = omega arith;
-            reports = omega arith;
+            room = room_answer held;
           })
           {T' = sets T 0 (record_numbers (record_of 0 t))} {S' = sets S 0 (string_at m text t)} {R' = sets R 0 (numbers_at m limit text t)}
           (record { of_record = refl; of_string = refl; of_notes = refl }) in

@@ -1,14 +1,12 @@
 -- How much room the tokens of a text can need: for no more string bytes and reports than it has bytes, and one token more. For `read_text`, which
 -- need not measure then, and for callers that choose their buffers. By induction on the tokens. Assumes nothing.
 use mathlib.Core.Path.{◌≡◌, refl, ap}
-use mathlib.Core.Bool.{Bool, true, ◌&&◌}
+use mathlib.Core.Bool.{true}
 use mathlib.Core.List.{List, [], ◌∷◌}
 use Prim.Native.Nat.{ℕ, ◌+◌, ◌*◌, ◌-◌, ◌≤◌}
 use native.Mathlib.Omega.{arith}
-use lib.Dec.{leb}
 use lib.ListN.{length, drop}
-use borrow.Author.Tests.{leb-true}
-use Rattle.base.proofs.Tests.{and_left, and_right}
+use Rattle.std.specs.Prelude.{Result, is_ok}
 use Rattle.token.specs.Layout.{record_width, report_width}
 use Rattle.lexeme.specs.declared.Mode.{Mode}
 use Rattle.lexeme.specs.declared.Mode.TheVariants.{Strict, Tolerant}
@@ -18,7 +16,9 @@ use Rattle.lexer.specs.declared.reading.Reading.{Reading}
 use Rattle.lexer.proofs.StrictNotes.{strict_notes}
 use Rattle.reading.specs.Tokens.{tokens}
 use Rattle.reading.specs.Buffers.{strings_of, reports_of, whole_laid}
-use Rattle.reading.specs.Passes.{Room, most_notes, most_reports, suffice_for}
+use Rattle.reading.specs.declared.refusal.Refusal.{Refusal}
+use Rattle.reading.proofs.Refusals.{room_checks}
+use Rattle.reading.specs.Passes.{Room, most_notes, most_reports, most_counts, suffice_for}
 use Rattle.reading.proofs.NextToken.{Read, reads, string_few}
 use Rattle.reading.proofs.From.{by_tokens, by_each}
 use Rattle.reading.proofs.Rows.{records_length, strings_length, reports_length}
@@ -59,6 +59,11 @@ module _ (m : Reading) (limit : ℕ) (text : List ℕ) where
       (λ at ts h c w. let r = reads m limit text at h in omega (arith, r.forward c)) 0 (omega arith) in
       omega arith
 
+-- no mode has more reports than bytes
+pub most_le : (k : Mode) (len : ℕ) → most_notes k len ≤ len
+most_le Strict len = omega arith
+most_le Tolerant len = omega arith
+
 -- strict lexers make no report
 strict_reports : (m : Reading) → mode_of m ≡ Strict → (limit : ℕ) (text : List ℕ) (ts : List Token) → length (reports_of m limit text ts) ≡ 0
 unfolding reports_of
@@ -77,16 +82,12 @@ most_reports_lem m limit text = go (mode_of m) refl
 -- buffers that suffice for any text of its length suffice for a text
 pub suffice_room : (m : Reading) (limit : ℕ) (text : List ℕ) (nt ns nr : ℕ) → suffice_for m (length text) nt ns nr ≡ true
     → Room (whole_laid m limit text) nt ns nr
-unfolding suffice_for
-suffice_room m limit text nt ns nr e =
-    let a : Bool = leb ((length text + 1) * record_width) nt in
-    let b : Bool = leb (length text) ns in
-    let c : Bool = leb (most_reports m (length text) * report_width) nr in
-    let f = and_left (a && b) c e in
+suffice_room m limit text nt ns nr =
+    room_checks (λ (r : Result (Unit {0}) Refusal). is_ok r ≡ true → Room (whole_laid m limit text) nt ns nr) (most_counts m (length text)) nt ns nr
+    (λ _ e. absurd cc) (λ _ e. absurd cc) (λ _ e. absurd cc)
+    (λ a b c e.
     record {
-      for_tokens =
-          let i = leb-true ((length text + 1) * record_width) nt (and_left a b f) in
-          omega (arith, records_length 0 (tokens m limit text), tokens_fit m limit text);
-      for_strings = omega (arith, strings_fit m limit text, leb-true (length text) ns (and_right a b f));
-      for_reports = omega (arith, most_reports_lem m limit text, leb-true (most_reports m (length text) * report_width) nr (and_right (a && b) c e));
-    }
+      for_tokens = omega (arith, records_length 0 (tokens m limit text), tokens_fit m limit text);
+      for_strings = omega (arith, strings_fit m limit text);
+      for_reports = omega (arith, most_reports_lem m limit text);
+    })

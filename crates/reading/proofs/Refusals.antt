@@ -1,6 +1,6 @@
 -- The checks of the calls on a text, for their answers: a refusal's number is not 0 and it lays nothing; what each check answers, from its test; and
 -- what holds of every refusal that can come and of what stands behind the checks, holds of the answer. By cases on the tests. Assumes nothing.
-use mathlib.Core.Path.{◌≡◌, refl, sym}
+use mathlib.Core.Path.{◌≡◌, refl, sym, ap}
 use mathlib.Core.Bool.{Bool, true, false}
 use mathlib.Core.List.{List}
 use Prim.Native.Nat.{ℕ, ◌*◌, ◌≤◌, ◌<◌}
@@ -8,6 +8,7 @@ use native.Mathlib.Omega.{arith}
 use lib.Dec.{ltb, eqb}
 use lib.IntN.{ℤ}
 use lib.ListN.{length}
+use Rattle.std.specs.Prelude.{Result, Ok, Err}
 use borrow.Author.Tests.{ltb-true, ltb-false, lt-ltb, le-ltb}
 use Rattle.base.specs.Choice.{pick}
 use Rattle.base.proofs.Tests.{pick_case}
@@ -18,14 +19,12 @@ use Rattle.utf8.specs.declared.check.Verdict.{Verdict}
 use Rattle.utf8.specs.declared.check.Verdict.TheVariants.{WellFormed, IllFormed}
 use Rattle.utf8.proofs.Valid.{checked}
 use Rattle.token.specs.Layout.{record_width, report_width}
-use Rattle.reading.specs.Buffers.{Laid, Lays}
-use Rattle.reading.specs.Passes.{Measured, Room}
-use Rattle.reading.specs.Refusals.{refusal_number, after_check, judge_of, after_judge, after_room}
+use Rattle.reading.specs.Buffers.{Laid, Lays, counts_of}
+use Rattle.reading.specs.Passes.{Room}
+use Rattle.reading.specs.Refusals.{refusal_number, after_check, judge_of, after_judge, room_of, after_room}
+use Rattle.reading.specs.declared.counts.Counts.{Counts}
 use Rattle.reading.specs.declared.refusal.Refusal.{Refusal}
 use Rattle.reading.specs.declared.refusal.Refusal.TheVariants.{TooLong, NotUtf8, NoPlace, TokensShort, StringsShort, ReportsShort}
-use Rattle.reading.specs.declared.text.TextCounts.{TextCounts}
-use Rattle.reading.specs.declared.judge.Judged.{Judged}
-use Rattle.reading.specs.declared.judge.Judged.TheVariants.{Fit, Unfit}
 
 -- a refusal's number is not 0
 pub number_some : (r : Refusal) → eqb (refusal_number r) 0 ≡ false
@@ -44,29 +43,26 @@ untouched r l T S R =
 
 module _ (text : List ℕ) where
   -- the three answers of the checks, each under its condition
-  pub judge_case : (P : Judged → Type 0) → (max_message_size < length text → P (Unfit TooLong))
-      → ((n : ℕ) → length text ≤ max_message_size → check_of text ≡ IllFormed n → P (Unfit (NotUtf8 n)))
-      → (length text ≤ max_message_size → check_of text ≡ WellFormed → P Fit) → P (judge_of text)
+  pub judge_case : (P : Result (Unit {0}) Refusal → Type 0) → (max_message_size < length text → P (Err TooLong))
+      → ((n : ℕ) → length text ≤ max_message_size → check_of text ≡ IllFormed n → P (Err (NotUtf8 n)))
+      → (length text ≤ max_message_size → check_of text ≡ WellFormed → P (Ok tt)) → P (judge_of text)
   unfolding judge_of
   judge_case P long ill fit = go (ltb max_message_size (length text)) (check_of text) refl refl
     where
       go : (b : Bool) (v : Verdict) → ltb max_message_size (length text) ≡ b → check_of text ≡ v
-          → P (pick b (Unfit TooLong) (after_check v (λ n. Unfit (NotUtf8 n)) Fit))
+          → P (pick b (Err TooLong) (after_check v (λ n. Err (NotUtf8 n)) (Ok tt)))
       go true v p q = long (ltb-true _ _ p)
       go false (IllFormed n) p q = ill n (ltb-false _ _ p) q
       go false WellFormed p q = fit (ltb-false _ _ p) q
 
   -- a text that fits is short enough and well formed
-  pub fitting : judge_of text ≡ Fit → (length text ≤ max_message_size) × (check_of text ≡ WellFormed)
+  pub fitting : judge_of text ≡ Ok tt → (length text ≤ max_message_size) × (check_of text ≡ WellFormed)
   fitting =
-      judge_case (λ (j : Judged). j ≡ Fit → (length text ≤ max_message_size) × (check_of text ≡ WellFormed))
-      (λ _ e. absurd (other e)) (λ n _ _ e. absurd (other e)) (λ h g e. (h, g))
-    where
-      other : {x : Refusal} → Unfit x ≡ Fit → ⊥
-      other e = let z : ◌≡◌ {A = ℕ} 0 1 = cc in omega arith
+      judge_case (λ (j : Result (Unit {0}) Refusal). j ≡ Ok tt → (length text ≤ max_message_size) × (check_of text ≡ WellFormed))
+      (λ _ e. absurd cc) (λ n _ _ e. absurd cc) (λ h g e. (h, g))
 
   -- and such a text fits
-  pub fits : length text ≤ max_message_size → check_of text ≡ WellFormed → judge_of text ≡ Fit
+  pub fits : length text ≤ max_message_size → check_of text ≡ WellFormed → judge_of text ≡ Ok tt
   unfolding judge_of
   fits h g = rw (le-ltb _ _ h, g)
 
@@ -74,53 +70,43 @@ module _ (text : List ℕ) where
   pub well_octets : check_of text ≡ WellFormed → Octets text
   well_octets g = (checked text WellFormed (sym g)).whole refl
 
+-- the four answers of checks 4, 5 and 6, each under its condition
+pub room_checks : (P : Result (Unit {0}) Refusal → Type 0) (c : Counts) (nt ns nr : ℕ) → (nt < c.tokens * record_width → P (Err TokensShort))
+    → (ns < c.strings → P (Err StringsShort)) → (nr < c.reports * report_width → P (Err ReportsShort))
+    → (c.tokens * record_width ≤ nt → c.strings ≤ ns → c.reports * report_width ≤ nr → P (Ok tt)) → P (room_of c nt ns nr)
+unfolding room_of
+room_checks P c nt ns nr tokens strings reports enough =
+    pick_case P (ltb nt (c.tokens * record_width)) (λ e. tokens (ltb-true _ _ e))
+    (λ t. pick_case P (ltb ns c.strings) (λ e. strings (ltb-true _ _ e))
+    (λ s. pick_case P (ltb nr (c.reports * report_width)) (λ e. reports (ltb-true _ _ e))
+    (λ r. enough (ltb-false _ _ t) (ltb-false _ _ s) (ltb-false _ _ r))))
+
+module _ {l : Laid} {nt ns nr : ℕ} where
+  -- buffers that pass hold what is laid
+  pub enough : room_of (counts_of l) nt ns nr ≡ Ok tt → Room l nt ns nr
+  enough =
+      room_checks (λ (r : Result (Unit {0}) Refusal). r ≡ Ok tt → Room l nt ns nr) (counts_of l) nt ns nr (λ _ e. absurd cc) (λ _ e. absurd cc)
+      (λ _ e. absurd cc) (λ t s r e. record { for_tokens = t; for_strings = s; for_reports = r })
+
+  -- and such buffers pass
+  pub room_answer : Room l nt ns nr → room_of (counts_of l) nt ns nr ≡ Ok tt
+  unfolding room_of
+  room_answer h = rw (le-ltb _ _ h.for_tokens, le-ltb _ _ h.for_strings, le-ltb _ _ h.for_reports)
+
 module _ {A : Type 0} (P : A → Type 0) (refuse : Refusal → A) {a : A} where
   -- after checks 1 and 2
-  pub judged_case : (text : List ℕ) → ((x : Refusal) → judge_of text ≡ Unfit x → P (refuse x)) → (judge_of text ≡ Fit → P a)
+  pub judged_case : (text : List ℕ) → ((x : Refusal) → judge_of text ≡ Err x → P (refuse x)) → (judge_of text ≡ Ok tt → P a)
       → P (after_judge (judge_of text) refuse a)
   judged_case text unfit fit = go (judge_of text) refl
     where
-      go : (j : Judged) → judge_of text ≡ j → P (after_judge j refuse a)
-      go (Unfit x) e = unfit x e
-      go Fit e = fit e
+      go : (j : Result (Unit {0}) Refusal) → judge_of text ≡ j → P (after_judge j refuse a)
+      go (Err x) e = unfit x e
+      go (Ok x) e = fit e
 
   -- after checks 4, 5 and 6
   pub room_case : (l : Laid) (nt ns nr : ℕ) → (nt < length l.records * record_width → P (refuse TokensShort))
       → (ns < length l.strings → P (refuse StringsShort)) → (nr < length l.reports * report_width → P (refuse ReportsShort))
       → (Room l nt ns nr → P a) → P (after_room l nt ns nr refuse a)
   room_case l nt ns nr tokens strings reports accepted =
-      pick_case P (ltb nt (length l.records * record_width)) (λ e. tokens (ltb-true _ _ e))
-      (λ t. pick_case P (ltb ns (length l.strings)) (λ e. strings (ltb-true _ _ e))
-      (λ s. pick_case P (ltb nr (length l.reports * report_width)) (λ e. reports (ltb-true _ _ e))
-      (λ r. accepted (record { for_tokens = ltb-false _ _ t; for_strings = ltb-false _ _ s; for_reports = ltb-false _ _ r }))))
-
--- checks 4, 5 and 6: the first buffer that is too short for what is laid, and its refusal
-pub data Short (l : Laid) (nt ns nr : ℕ) : Refusal → Type 0 where
-  tokens : nt < length l.records * record_width → Short l nt ns nr TokensShort
-  strings : length l.records * record_width ≤ nt → ns < length l.strings → Short l nt ns nr StringsShort
-  reports : length l.records * record_width ≤ nt → length l.strings ≤ ns → nr < length l.reports * report_width → Short l nt ns nr ReportsShort
-
-module _ {A : Type 0} (refuse : Refusal → A) (a : A) {l : Laid} {nt ns nr : ℕ} where
-  pub short_answer : {x : Refusal} → Short l nt ns nr x → refuse x ≡ after_room l nt ns nr refuse a
-  short_answer (tokens h) = rw (lt-ltb _ _ h)
-  short_answer (strings t h) = rw (le-ltb _ _ t, lt-ltb _ _ h)
-  short_answer (reports t s h) = rw (le-ltb _ _ t, le-ltb _ _ s, lt-ltb _ _ h)
-
-  pub room_answer : Room l nt ns nr → a ≡ after_room l nt ns nr refuse a
-  room_answer h = rw (le-ltb _ _ h.for_tokens, le-ltb _ _ h.for_strings, le-ltb _ _ h.for_reports)
-
--- the same by what has been measured
-module _ {l : Laid} {r : TextCounts} (w : Measured l r) {nt ns nr : ℕ} where
-  pub tokens_short : nt < r.tokens * record_width → Short l nt ns nr TokensShort
-  tokens_short h = tokens (rw w.of_tokens at h)
-
-  module _ (t : r.tokens * record_width ≤ nt) where
-    pub strings_short : ns < r.strings → Short l nt ns nr StringsShort
-    strings_short h = strings (rw w.of_tokens at t) (rw w.of_strings at h)
-
-    module _ (s : r.strings ≤ ns) where
-      pub reports_short : nr < r.reports * report_width → Short l nt ns nr ReportsShort
-      reports_short h = reports (rw w.of_tokens at t) (rw w.of_strings at s) (rw w.of_reports at h)
-
-      pub enough : r.reports * report_width ≤ nr → Room l nt ns nr
-      enough h = record { for_tokens = rw w.of_tokens at t; for_strings = rw w.of_strings at s; for_reports = rw w.of_reports at h }
+      room_checks (λ (r : Result (Unit {0}) Refusal). P (after_judge r refuse a)) (counts_of l) nt ns nr tokens strings reports
+      (λ t s r. accepted (record { for_tokens = t; for_strings = s; for_reports = r }))

@@ -18,9 +18,9 @@ use Rattle.lexer.specs.Token.{string_size}
 use Rattle.lexer.specs.declared.next.Token.{Token}
 use Rattle.lexer.specs.declared.reading.Reading.{Reading}
 use Rattle.reading.proofs.NextToken.{string_at, notes_at, reports_at, numbers_at}
-use Rattle.reading.specs.Buffers.{record_of, records_of, strings_of, reports_of, record_rows, report_rows, Laid, Lays}
-use Rattle.reading.specs.Passes.{Measured, Room, AllStored}
-use Rattle.reading.specs.declared.text.TextCounts.{TextCounts}
+use Rattle.reading.specs.Buffers.{record_of, records_of, strings_of, reports_of, record_rows, report_rows, Laid, counts_of, Lays}
+use Rattle.reading.specs.Passes.{Room, AllStored}
+use Rattle.reading.specs.declared.counts.Counts.{Counts}
 
 -- ---- lengths and rows of lists
 
@@ -148,19 +148,19 @@ written_lays {l} {T} {S} {R} h w =
 
 -- as much as is counted of what is laid lies in the buffers, and is what they hold first
 module _ {l : Laid} {T : List ℤ} {S : List ℕ} {R T' : List ℤ} {S' : List ℕ} {R' : List ℤ} (w : Lays 0 l T S R T' S' R')
-    {r : TextCounts} (q : Measured l r) where
-  pub lies_inside : (r.tokens * record_width ≤ length T') × (r.strings ≤ length S') × (r.reports * report_width ≤ length R')
+    {c : Counts} (q : c ≡ counts_of l) where
+  pub lies_inside : (c.tokens * record_width ≤ length T') × (c.strings ≤ length S') × (c.reports * report_width ≤ length R')
   lies_inside = (
-    rw (w.records, q.of_tokens) (simp length-append (omega (arith, record_rows_length l.records))),
-    rw (w.strings, q.of_strings) (simp length-append (omega arith)),
-    rw (w.reports, q.of_reports) (simp length-append (omega (arith, report_rows_length l.reports))),
+    rw (w.records, q) (simp length-append (omega (arith, record_rows_length l.records))),
+    rw (w.strings, q) (simp length-append (omega arith)),
+    rw (w.reports, q) (simp length-append (omega (arith, report_rows_length l.reports))),
   )
 
-  pub held_records : take (r.tokens * record_width) T' ≡ record_rows l.records
-  held_records = rw (w.records, q.of_tokens) (take_at (record_rows l.records) _ _ (record_rows_length l.records))
+  pub held_records : take (c.tokens * record_width) T' ≡ record_rows l.records
+  held_records = rw (w.records, q) (take_at (record_rows l.records) _ _ (record_rows_length l.records))
 
-  pub held_strings : take r.strings S' ≡ l.strings
-  held_strings = rw (w.strings, q.of_strings) (take_at l.strings _ _ refl)
+  pub held_strings : take c.strings S' ≡ l.strings
+  held_strings = rw (w.strings, q) (take_at l.strings _ _ refl)
 
-  pub held_reports : take (r.reports * report_width) R' ≡ report_rows l.reports
-  held_reports = rw (w.reports, q.of_reports) (take_at (report_rows l.reports) _ _ (report_rows_length l.reports))
+  pub held_reports : take (c.reports * report_width) R' ≡ report_rows l.reports
+  held_reports = rw (w.reports, q) (take_at (report_rows l.reports) _ _ (report_rows_length l.reports))

@@ -25,8 +25,9 @@ use Rattle.lexer.specs.declared.next.Found.{Found}
 use Rattle.lexer.specs.declared.next.Token.{Token}
 use Rattle.lexer.specs.declared.reading.Reading.{Reading}
 use Rattle.reading.specs.Tokens.{tokens_from, tokens}
-use Rattle.reading.specs.Buffers.{record_of, records_of, strings_of, reports_of, record_rows, report_rows, whole_laid}
-use Rattle.reading.specs.Passes.{Measured, Room, AllStored, TokenRoom, TokenPut}
+use Rattle.reading.specs.Buffers.{record_of, records_of, strings_of, reports_of, record_rows, report_rows, whole_laid, counts_of}
+use Rattle.reading.specs.Passes.{Room, AllStored, TokenRoom, TokenPut}
+use Rattle.reading.specs.declared.counts.Counts.{Counts}
 use Rattle.reading.proofs.NextToken.{string_at, notes_at, numbers_at, Read, start_bounded, string_few, reads, end_offset}
 use Rattle.reading.proofs.From.{from_eof, from_more, from_head}
 use Rattle.reading.proofs.Rows.{records_length, records_more, strings_more, strings_length, reports_length, reports_more}
@@ -140,17 +141,17 @@ module _ {m : Reading} {limit : ℕ} {text : List ℕ} {at n s k : ℕ} (w : Mea
           reports = omega (arith, rw q at w.reports, reports_length m limit text t rest);
         }
 
-    counted : IsEof t.kind → Measured (whole_laid m limit text) (record { tokens = n + 1; strings = s; reports = k })
+    counted : IsEof t.kind → ◌≡◌ {A = Counts} (record { tokens = n + 1; strings = s; reports = k }) (counts_of (whole_laid m limit text))
     counted c =
         let q = eof_of m limit text at w.inside t e c in
         let a = ap length (eof_string m limit text at w.inside t e c) in
         let b = ap length (eof_notes m limit text at w.inside t e c) in
         let z = nothing_left m limit text in
-        record {
-          of_tokens = omega (arith, rw q at w.count, records_length 0 (tokens m limit text));
-          of_strings = omega (arith, rw q at w.size, strings_length m limit text t []);
-          of_reports = omega (arith, rw q at w.reports, reports_length m limit text t []);
-        }
+        let whole = whole_laid m limit text in
+        let of_tokens : n + 1 ≡ length whole.records = omega (arith, rw q at w.count, records_length 0 (tokens m limit text)) in
+        let of_strings : s ≡ length whole.strings = omega (arith, rw q at w.size, strings_length m limit text t []) in
+        let of_reports : k ≡ length whole.reports = omega (arith, rw q at w.reports, reports_length m limit text t []) in
+        cc
 
   -- the same of what `next_lexeme` finds, which has offsets for places
   module _ {f : Found} (e : f ≡ found_at m limit text at) where
@@ -172,7 +173,8 @@ module _ {m : Reading} {limit : ℕ} {text : List ℕ} {at n s k : ℕ} (w : Mea
         → Measuring m limit text (found_end f) (n + 1) (s + string_size f.lexeme.kind f.lexeme.size) (k + f.lexeme.reports)
     measuring_turn c = rw found_end_lem at (turn found_next c)
 
-    pub measuring_end : IsEof f.lexeme.kind → Measured (whole_laid m limit text) (record { tokens = n + 1; strings = s; reports = k })
+    pub measuring_end : IsEof f.lexeme.kind
+        → ◌≡◌ {A = Counts} (record { tokens = n + 1; strings = s; reports = k }) (counts_of (whole_laid m limit text))
     measuring_end = counted found_next
 
 -- ---- the second pass
@@ -267,7 +269,8 @@ module _ {m : Reading} {limit : ℕ} {text : List ℕ} {T : List ℤ} {S : List 
           }
 
       pub passing_end : IsEof t.kind
-          → Measured (whole_laid m limit text) (record { tokens = n + 1; strings = s; reports = k }) × AllStored (whole_laid m limit text) T S R T'' S'' R''
+          → (◌≡◌ {A = Counts} (record { tokens = n + 1; strings = s; reports = k }) (counts_of (whole_laid m limit text)))
+          × AllStored (whole_laid m limit text) T S R T'' S'' R''
       unfolding records_of record_rows strings_of reports_of report_rows notes_numbers
       passing_end c =
           let q = eof_of m limit text p.offset w.walkable.inside t e c in

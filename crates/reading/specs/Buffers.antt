@@ -1,5 +1,5 @@
 -- What a reading lays into the three buffers: document 01, "Places and records".
-use Rattle.std.specs.Prelude.{◌≡◌, List, [], ◌∷◌, ◌++◌, map, ℕ, ◌+◌, ℤ, drop}
+use Rattle.std.specs.Prelude.{◌≡◌, List, [], ◌∷◌, ◌++◌, map, ℕ, ◌+◌, ℤ, length, drop}
 use Rattle.base.specs.Choice.{pick}
 use Rattle.base.specs.Buffers.{after}
 use Rattle.token.specs.Kind.{kind_number, is_string}
@@ -12,7 +12,9 @@ use Rattle.lexer.specs.Token.{next_token, string_size}
 use Rattle.lexer.specs.declared.next.Token.{Token}
 use Rattle.lexer.specs.declared.reading.Reading.{Reading}
 use Rattle.reading.specs.Tokens.{tokens}
+use Rattle.reading.specs.declared.counts.Counts.{Counts}
 
+-- Types of the code (src/counts.rt). `Counts`: how many `tokens`, `strings`, which are string bytes, and `reports`.
 -- Types that other files explain: `Record`, `Report` in token/specs/Layout.antt; `Token` in lexer/specs/Token.antt; `Reading` in
 -- lexer/specs/Reading.antt.
 
@@ -65,6 +67,10 @@ pub record Laid : Type 0 where
   pub records : List Record
   pub strings : List ℕ
   pub reports : List Report
+
+-- "the counts of tokens, string bytes and reports" of what is laid
+abbrev pub counts_of : Laid → Counts
+counts_of l = record { tokens = length l.records; strings = length l.strings; reports = length l.reports }
 
 -- what tokens of the text lay, their strings from p on
 abbrev pub laid_from : Reading → ℕ → List ℕ → ℕ → List Token → Laid

@@ -1,5 +1,5 @@
 -- One token after the other by `read_token`, each from the place at the end of the one before, against the whole reading.
-use Rattle.std.specs.Prelude.{◌≡◌, List, [], ◌∷◌, ◌++◌, ℕ, ◌+◌, ◌*◌, ◌≤◌, ◌<◌, eqb, ℤ, length, take}
+use Rattle.std.specs.Prelude.{◌≡◌, List, [], ◌∷◌, ◌++◌, ℕ, ◌+◌, ◌*◌, ◌≤◌, ◌<◌, eqb, ℤ, length, take, Ok}
 use Rattle.base.specs.Choice.{pick}
 use Rattle.limits.specs.Limits.{max_message_size}
 use Rattle.utf8.specs.Check.{check_of}
@@ -13,10 +13,9 @@ use Rattle.token.specs.declared.place.Place.{Place}
 use Rattle.lexer.specs.declared.reading.Reading.{Reading}
 use Rattle.reading.specs.Buffers.{record_rows, report_rows, Laid, whole_laid}
 use Rattle.reading.specs.Calls.{ReadsToken}
-use Rattle.reading.specs.declared.one.ReadToken.TheVariants.{One}
 
 -- Types that other files explain: `Verdict` in utf8/specs/Check.antt; `Record`, `Report` in token/specs/Layout.antt; `Place` in token/specs/Place.antt;
--- `Reading` in lexer/specs/Reading.antt; `ReadToken` in Answers.antt.
+-- `Reading` in lexer/specs/Reading.antt; `OneToken` in Answers.antt.
 
 -- what a call lays of one token
 abbrev pub of_one : Record → List ℕ → List Report → Laid
@@ -33,7 +32,7 @@ pub record Call (m : Reading) (limit : ℕ) (text : List ℕ) (p : Place) (l : L
   pub R' : List ℤ
   pub s : ℕ
   pub k : ℕ
-  pub reads : ReadsToken m limit text p T S R (One s k q) T' S' R'
+  pub reads : ReadsToken m limit text p T S R (Ok (record { strings = s; reports = k; end = q })) T' S' R'
   pub stored : take record_width T' ≡ record_rows l.records
   pub written : take s S' ≡ l.strings
   pub reported : take (k * report_width) R' ≡ report_rows l.reports

@@ -1,6 +1,7 @@
 -- Helper definitions, for proofs and inner contracts alone: the two passes of a reading, and what a token lays into each buffer.
-use Rattle.std.specs.Prelude.{◌≡◌, Bool, ◌&&◌, List, ℕ, ◌+◌, ◌*◌, ◌≤◌, leb, ℤ, length, drop}
+use Rattle.std.specs.Prelude.{◌≡◌, Bool, List, ℕ, ◌+◌, ◌*◌, ◌≤◌, ℤ, length, drop, is_ok}
 use Rattle.std.proofs.lemmas.List.Edits.{sets}
+use Rattle.limits.specs.Limits.{max_message_size}
 use Rattle.token.specs.Layout.{record_width, report_width, record_numbers}
 use Rattle.token.specs.Helpers.{RecordFits, Walkable}
 use Rattle.lexeme.specs.Helpers.{notes_numbers}
@@ -11,15 +12,16 @@ use Rattle.lexer.specs.Token.{string_size}
 use Rattle.lexer.specs.declared.next.Token.{Token}
 use Rattle.lexer.specs.declared.reading.Reading.{Reading}
 use Rattle.reading.specs.Buffers.{record_of, record_rows, report_rows, Laid}
-use Rattle.reading.specs.declared.text.TextCounts.{TextCounts}
+use Rattle.reading.specs.Refusals.{room_of}
+use Rattle.reading.specs.declared.counts.Counts.{Counts}
 
--- Types that other files explain: `Mode` in lexeme/specs/Lexeme.antt; `Token` in lexer/specs/Token.antt; `Reading` in lexer/specs/Reading.antt.
+-- Types that other files explain: `Mode` in lexeme/specs/Lexeme.antt; `Token` in lexer/specs/Token.antt; `Reading` in lexer/specs/Reading.antt; `Counts` in
+-- Buffers.antt.
 
--- what the first pass counts, in the code's `TextCounts`, of what is laid: "the counts of tokens, string bytes and reports"
-pub record Measured (l : Laid) (r : TextCounts) : Type 0 where
-  pub of_tokens : r.tokens ≡ length l.records
-  pub of_strings : r.strings ≡ length l.strings
-  pub of_reports : r.reports ≡ length l.reports
+-- counts that a text which is read can have, so that their products with the widths do not wrap
+pub record Few (c : Counts) : Type 0 where
+  pub tokens : c.tokens ≤ max_message_size + 1
+  pub reports : c.reports ≤ max_message_size
 
 -- buffers of nt numbers, ns bytes and nr numbers hold "the complete result"
 pub record Room (l : Laid) (nt ns nr : ℕ) : Type 0 where
@@ -74,6 +76,10 @@ most_notes Tolerant len = len
 abbrev pub most_reports : Reading → ℕ → ℕ
 most_reports m len = most_notes (mode_of m) len
 
+-- the most that a text of so many bytes can have
+abbrev pub most_counts : Reading → ℕ → Counts
+most_counts m len = record { tokens = len + 1; strings = len; reports = most_reports m len }
+
 -- buffers of nt numbers, ns bytes and nr numbers that hold the result of any text of so many bytes
-unfoldable pub suffice_for : Reading → ℕ → ℕ → ℕ → ℕ → Bool
-suffice_for m len nt ns nr = (leb ((len + 1) * record_width) nt && leb len ns) && leb (most_reports m len * report_width) nr
+abbrev pub suffice_for : Reading → ℕ → ℕ → ℕ → ℕ → Bool
+suffice_for m len nt ns nr = is_ok (room_of (most_counts m len) nt ns nr)

@@ -1,20 +1,18 @@
 -- The refusals of the calls on a text, by document 01's numbers and values.
-use Rattle.std.specs.Prelude.{Bool, not, ◌&&◌, List, [], ◌∷◌, ℕ, ◌*◌, leb, ltb, length}
+use Rattle.std.specs.Prelude.{Bool, not, ◌&&◌, List, [], ◌∷◌, ℕ, ◌*◌, leb, ltb, length, Result, Ok, Err}
 use Rattle.base.specs.Choice.{pick}
 use Rattle.limits.specs.Limits.{max_message_size}
 use Rattle.utf8.specs.Check.{check_of, inside_char}
 use Rattle.utf8.specs.declared.check.Verdict.{Verdict}
 use Rattle.utf8.specs.declared.check.Verdict.TheVariants.{WellFormed, IllFormed}
 use Rattle.token.specs.Layout.{record_width, report_width}
-use Rattle.reading.specs.Buffers.{Laid}
+use Rattle.reading.specs.Buffers.{Laid, counts_of}
+use Rattle.reading.specs.declared.counts.Counts.{Counts}
 use Rattle.reading.specs.declared.refusal.Refusal.{Refusal}
 use Rattle.reading.specs.declared.refusal.Refusal.TheVariants.{TooLong, NotUtf8, NoPlace, TokensShort, StringsShort, ReportsShort}
-use Rattle.reading.specs.declared.judge.Judged.{Judged}
-use Rattle.reading.specs.declared.judge.Judged.TheVariants.{Fit, Unfit}
 
--- Types of the code (src/refusal.rt, src/judge.rt). `Refusal`: `TooLong`, `NotUtf8 offset`, `NoPlace`, `TokensShort`, `StringsShort`, `ReportsShort`,
--- numbered below. `Judged`, what the first two checks answer: `Fit`, or `Unfit refusal`.
--- Types that other files explain: `Verdict` in utf8/specs/Check.antt.
+-- Types of the code (src/refusal.rt). `Refusal`: `TooLong`, `NotUtf8 offset`, `NoPlace`, `TokensShort`, `StringsShort`, `ReportsShort`, numbered below.
+-- Types that other files explain: `Verdict` in utf8/specs/Check.antt; `Counts` in Buffers.antt.
 
 -- document 01's number of each
 abbrev pub refusal_number : Refusal → ℕ
@@ -42,22 +40,26 @@ after_check WellFormed f a = a
 after_check (IllFormed n) f a = f n
 
 -- checks 1 and 2: "the text exceeds 67,108,864 bytes", "the text isn't UTF-8 by RFC 3629"
-unfoldable pub judge_of : List ℕ → Judged
-judge_of text = pick (ltb max_message_size (length text)) (Unfit TooLong) (after_check (check_of text) (λ n. Unfit (NotUtf8 n)) Fit)
+unfoldable pub judge_of : List ℕ → Result (Unit {0}) Refusal
+judge_of text = pick (ltb max_message_size (length text)) (Err TooLong) (after_check (check_of text) (λ n. Err (NotUtf8 n)) (Ok tt))
 
 -- every call on a text begins with these: it refuses, or goes on
-abbrev pub after_judge {ℓ} : {A : Type ℓ} → Judged → (Refusal → A) → A → A
-after_judge Fit refuse a = a
-after_judge (Unfit r) refuse a = refuse r
+abbrev pub after_judge {ℓ} : {A : Type ℓ} → Result (Unit {0}) Refusal → (Refusal → A) → A → A
+after_judge (Ok x) refuse a = a
+after_judge (Err r) refuse a = refuse r
 
 -- check 3, of an offset: none "beyond the text or inside a character" is good
 unfoldable pub good_offset : List ℕ → ℕ → Bool
 good_offset text offset = leb offset (length text) && not (inside_char text offset)
 
--- checks 4, 5 and 6, where buffers of nt numbers, ns bytes and nr numbers are lent for what is laid: "the token slice, string buffer or report
--- slice is shorter than the complete result needs"
+-- checks 4, 5 and 6, where buffers of nt numbers, ns bytes and nr numbers are lent for so many: "the token slice, string buffer or report slice is
+-- shorter than the complete result needs"
+unfoldable pub room_of : Counts → ℕ → ℕ → ℕ → Result (Unit {0}) Refusal
+room_of c nt ns nr =
+    pick (ltb nt (c.tokens * record_width)) (Err TokensShort)
+    (pick (ltb ns c.strings) (Err StringsShort)
+    (pick (ltb nr (c.reports * report_width)) (Err ReportsShort) (Ok tt)))
+
+-- a call that lays this goes on after these, or refuses
 abbrev pub after_room {ℓ} : {A : Type ℓ} → Laid → ℕ → ℕ → ℕ → (Refusal → A) → A → A
-after_room l nt ns nr refuse a =
-    pick (ltb nt (length l.records * record_width)) (refuse TokensShort)
-    (pick (ltb ns (length l.strings)) (refuse StringsShort)
-    (pick (ltb nr (length l.reports * report_width)) (refuse ReportsShort) a))
+after_room l nt ns nr refuse a = after_judge (room_of (counts_of l) nt ns nr) refuse a

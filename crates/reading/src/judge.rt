@@ -6,22 +6,15 @@ use crate::refusal::Refusal;
 use limits::message_limit;
 use utf8::check::{Verdict, check};
 
-// Whether a text is one that is read.
-#[derive(Clone, Copy)]
-pub enum Judged {
-    Fit,
-    Unfit(Refusal),
-}
-
 // Checks 1 and 2, in this order.
-pub fn judge(text: &[u8]) -> Judged
+pub fn judge(text: &[u8]) -> Result<(), Refusal>
     ensures { result ≡ judge_of text.now }
 {
     if text.len() > message_limit() {
-        return Judged::Unfit(Refusal::TooLong);
+        return Err(Refusal::TooLong);
     }
     match check(text) {
-        Verdict::WellFormed => Judged::Fit,
-        Verdict::IllFormed(at) => Judged::Unfit(Refusal::NotUtf8(at)),
+        Verdict::WellFormed => Ok(()),
+        Verdict::IllFormed(at) => Err(Refusal::NotUtf8(at)),
     }
 }

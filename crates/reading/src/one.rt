@@ -1,44 +1,24 @@
 // One token from a place.
 ghost use Rattle.std.specs.Prelude.{◌≡◌, ◌≤◌, length};
 ghost use Rattle.limits.specs.Limits.{max_message_size};
-ghost use Rattle.reading.specs.Answers.{is_place, read_token_number};
+ghost use Rattle.reading.specs.Answers.{is_place};
 ghost use Rattle.reading.specs.Calls.{ReadsToken};
 
-use crate::judge::{Judged, judge};
+use crate::counts::Counts;
+use crate::judge::judge;
 use crate::place::good_offset;
-use crate::put::{put_notes, put_record, put_value};
+use crate::put::put_token;
 use crate::refusal::Refusal;
 use lexer::next::{next_token, string_size};
 use lexer::reading::Reading;
-use token::layout::{RECORD_WIDTH, REPORT_WIDTH};
 use token::place::{Place, walk};
 
-// What reading one token answers.
+// How many string bytes and reports one token has, and the place at its end.
 #[derive(Clone, Copy)]
-pub enum ReadToken {
-    // How many string bytes and reports were written, and the place at the token's end.
-    One {
-        strings: usize,
-        reports: usize,
-        end: Place,
-    },
-    Refused(Refusal),
-}
-
-impl ReadToken {
-    // Document 01's number of the answer, 0 where the call is accepted.
-    pub fn number(self) -> u8
-        ensures { result ≡ read_token_number self }
-    {
-        match self {
-            ReadToken::One {
-                strings: _,
-                reports: _,
-                end: _,
-            } => 0,
-            ReadToken::Refused(r) => r.number(),
-        }
-    }
+pub struct OneToken {
+    pub strings: usize,
+    pub reports: usize,
+    pub end: Place,
 }
 
 // Whether a place is one of the text, with its line and column. Any numbers may come.
@@ -46,15 +26,11 @@ fn is_place(text: &[u8], place: Place) -> bool
     requires { length text.now ≤ max_message_size }
     ensures { result ≡ is_place text.now place }
 {
-    let offset = place.offset;
-    if !good_offset(text, offset) {
+    if !good_offset(text, place.offset) {
         return false;
     }
-    let p = walk(text, Place::first(), offset);
-    if place.line != p.line {
-        return false;
-    }
-    place.column == p.column
+    let p = walk(text, Place::first(), place.offset);
+    place.line == p.line && place.column == p.column
 }
 
 // Reads the token after a place: its record, its string and its reports, each from the buffer's start.
@@ -66,36 +42,24 @@ pub fn read_token(
     tokens: &mut [i64],
     strings: &mut [u8],
     reports: &mut [i64],
-) -> ReadToken
+) -> Result<OneToken, Refusal>
     ensures { ReadsToken mode limit text.now place tokens.old strings.old reports.old result tokens.new strings.new reports.new }
 {
-    match judge(text) {
-        Judged::Unfit(r) => return ReadToken::Refused(r),
-        Judged::Fit => {}
-    }
+    judge(text)?;
     if !is_place(text, place) {
-        return ReadToken::Refused(Refusal::NoPlace);
-    }
-    if tokens.len() < RECORD_WIDTH {
-        return ReadToken::Refused(Refusal::TokensShort);
+        return Err(Refusal::NoPlace);
     }
     let t = next_token(text, place, mode, limit);
-    let kind = t.kind;
-    let size = string_size(kind, t.size);
-    if strings.len() < size {
-        return ReadToken::Refused(Refusal::StringsShort);
-    }
-    let count = t.reports;
-    if reports.len() < count * REPORT_WIDTH {
-        return ReadToken::Refused(Refusal::ReportsShort);
-    }
-    let end = t.end;
-    put_record(t, 0, tokens, 0);
-    put_value(text, t, mode, strings, 0);
-    put_notes(text, t, mode, limit, reports, 0);
-    ReadToken::One {
-        strings: size,
-        reports: count,
-        end,
-    }
+    let counts = Counts {
+        tokens: 1,
+        strings: string_size(t.kind, t.size),
+        reports: t.reports,
+    };
+    counts.fit(tokens.len(), strings.len(), reports.len())?;
+    put_token(text, t, mode, limit, tokens, 0, strings, 0, reports, 0);
+    Ok(OneToken {
+        strings: counts.strings,
+        reports: counts.reports,
+        end: t.end,
+    })
 }

@@ -2,7 +2,9 @@
 ghost use Rattle.std.specs.Prelude.{◌≡◌};
 ghost use Rattle.reading.specs.Refusals.{refusal_number};
 
-#[derive(Clone, Copy)]
+use base::answer::Numbered;
+
+#[derive(Clone, Copy, PartialEq, Eq, Debug)]
 pub enum Refusal {
     // The text exceeds 67,108,864 bytes.
     TooLong,
@@ -15,11 +17,11 @@ pub enum Refusal {
     ReportsShort,
 }
 
-impl Refusal {
+impl Numbered for Refusal {
+    ghost number_of = { refusal_number };
+
     // Document 01's number.
-    pub fn number(self) -> u8
-        ensures { result ≡ refusal_number self }
-    {
+    fn number(self) -> u8 {
         match self {
             Refusal::TooLong => 1,
             Refusal::NotUtf8(_) => 2,

@@ -11,6 +11,7 @@ use lib.IntN.{ℤ}
 use lib.ListN.{length, take, drop, length-drop, take-append-drop}
 use lib.Seq.{get_or-take, get_or-drop, drop-drop, length-take-le}
 use borrow.Author.Tests.{eq-eqb, le-ltb, eqb-true, eqb-false, not-true}
+use Rattle.std.specs.Prelude.{Result, Ok, Err}
 use Rattle.base.specs.Bytes.{byte, within, each}
 use Rattle.base.specs.Classes.{is_digit, is_duration_unit, is_space}
 use Rattle.base.proofs.Tests.{by_cases, and_left, and_right, or_case, pick_first, true_false, zero_one, inside as in_range}
@@ -25,8 +26,7 @@ use Rattle.lexer.specs.Token.{in_blanks, start_at, next_token}
 use Rattle.lexer.specs.declared.reading.Reading.TheVariants.{Strict}
 use Rattle.reading.specs.Buffers.{whole_laid}
 use Rattle.reading.specs.Refusals.{judge_of, after_judge}
-use Rattle.reading.specs.declared.judge.Judged.{Judged}
-use Rattle.reading.specs.declared.judge.Judged.TheVariants.{Fit, Unfit}
+use Rattle.reading.specs.declared.refusal.Refusal.{Refusal}
 use Rattle.reading.proofs.NextToken.{reads}
 use Rattle.suggest.specs.Counts.{Sees}
 use Rattle.suggest.specs.Suggestions.{only_duration, seen_in}
@@ -89,7 +89,7 @@ module _ (limit : ℕ) (text : List ℕ) where
   -- ---- the strict reader
 
   module _ (short : length text ≤ max_message_size) where
-    fit : Clean text → judge_of text ≡ Fit
+    fit : Clean text → judge_of text ≡ Ok tt
     unfolding judge_of check_of
     fit c = rw (le-ltb max_message_size (length text) short, eq-eqb _ _ (octets_valid c.octets))
 
@@ -97,9 +97,9 @@ module _ (limit : ℕ) (text : List ℕ) where
     unfolding seen_in
     seen_in_lem = go (handed limit text) refl
       where
-        other : (j : Judged) → after_judge {A = Option ℤ} j (λ r. None) None ≡ None
-        other Fit = refl
-        other (Unfit r) = refl
+        other : (j : Result (Unit {0}) Refusal) → after_judge {A = Option ℤ} j (λ r. None) None ≡ None
+        other (Ok x) = refl
+        other (Err r) = refl
 
         go : (s : Option ℤ) → handed limit text ≡ s → after_judge (judge_of text) (λ r. None) (handed limit text) ≡ handed limit text
         go None q = rw q (other (judge_of text))
@@ -125,12 +125,12 @@ module _ (limit : ℕ) (text : List ℕ) where
   unfolding seen_in
   seen_sees z = go (judge_of text) refl (whole_laid Strict limit text).records refl
     where
-      go : (j : Judged) → judge_of text ≡ j → (rs : List Record) → (whole_laid Strict limit text).records ≡ rs
+      go : (j : Result (Unit {0}) Refusal) → judge_of text ≡ j → (rs : List Record) → (whole_laid Strict limit text).records ≡ rs
           → after_judge j (λ r. None) (only_duration rs) ≡ Some z → Sees limit text z
-      go (Unfit r) p rs q e = zero_one (cc)
-      go Fit p [] q e = zero_one (cc)
-      go Fit p (d ∷ []) q e = zero_one (cc)
-      go Fit p (d ∷ f ∷ []) q e =
+      go (Err r) p rs q e = zero_one (cc)
+      go (Ok x) p [] q e = zero_one (cc)
+      go (Ok x) p (d ∷ []) q e = zero_one (cc)
+      go (Ok x) p (d ∷ f ∷ []) q e =
           let w = pick_first (eqb d.kind duration_number && eqb f.kind eof_number) (λ x. zero_one (cc)) e in
           record {
             accepted = p;
@@ -143,4 +143,4 @@ module _ (limit : ℕ) (text : List ℕ) where
               eof = eqb-true _ _ (and_right (eqb d.kind duration_number) _ w.0);
             };
           }
-      go Fit p (d ∷ f ∷ g ∷ rs) q e = zero_one (cc)
+      go (Ok x) p (d ∷ f ∷ g ∷ rs) q e = zero_one (cc)

@@ -1,15 +1,14 @@
 -- Which replacements count: document 02, #102, "every replacement of one byte by a different printable ASCII byte (0x20 to 0x7E) after which the strict
 -- reader sees exactly one Duration and, but for the Eof, nothing else".
-use Rattle.std.specs.Prelude.{◌≡◌, List, [], ◌∷◌, ℕ, ◌≤◌, ◌<◌, ℤ, length, set}
+use Rattle.std.specs.Prelude.{◌≡◌, List, [], ◌∷◌, ℕ, ◌≤◌, ◌<◌, ℤ, length, set, Ok}
 use Rattle.base.specs.Bytes.{byte}
 use Rattle.token.specs.Kind.{eof_number, duration_number}
 use Rattle.token.specs.declared.layout.Record.{Record}
 use Rattle.lexer.specs.declared.reading.Reading.TheVariants.{Strict}
 use Rattle.reading.specs.Buffers.{whole_laid}
 use Rattle.reading.specs.Refusals.{judge_of}
-use Rattle.reading.specs.declared.judge.Judged.TheVariants.{Fit}
 
--- Types that other files explain: `Record` in token/specs/Layout.antt; `Reading` in lexer/specs/Reading.antt; `Judged` in reading/specs/Refusals.antt.
+-- Types that other files explain: `Record` in token/specs/Layout.antt; `Reading` in lexer/specs/Reading.antt.
 
 -- the run with the byte b in place of the one at i
 abbrev pub replaced : List ℕ → ℕ → ℕ → List ℕ
@@ -33,7 +32,7 @@ pub record OneDuration (rs : List Record) (z : ℤ) : Type 0 where
 
 -- "the strict reader sees": the text passes the checks 1 and 2, and these are the tokens that its whole reading hands over
 pub record Sees (limit : ℕ) (text : List ℕ) (z : ℤ) : Type 0 where
-  pub accepted : judge_of text ≡ Fit
+  pub accepted : judge_of text ≡ Ok tt
   pub tokens : OneDuration (whole_laid Strict limit text).records z
 
 -- the byte b at the offset i counts, and gives z nanoseconds

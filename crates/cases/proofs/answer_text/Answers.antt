@@ -3,4 +3,4 @@ use Rattle.reading.proofs.AnswerBounds.{text_inside}
 use Rattle.cases.proofs.answer_text.Goals as goal
 
 pub print_counts-requires : goal.print_counts-requires
-print_counts-requires c = text_inside c.read_text.ensures c.in-Counts.is
+print_counts-requires c = text_inside c.read_text.ensures c.in-Ok.is

@@ -3,4 +3,4 @@ use Rattle.reading.proofs.AnswerBounds.{one_inside}
 use Rattle.cases.proofs.answer_token.Goals as goal
 
 pub print_counts-requires : goal.print_counts-requires
-print_counts-requires c = one_inside c.read_token.ensures c.in-One.is
+print_counts-requires c = one_inside c.read_token.ensures c.in-Ok.is

@@ -2,8 +2,8 @@
 use Rattle.listing_lines.proofs.Suffices.{prints, never_short}
 use Rattle.listing.proofs.fill.Goals as goal
 
-pub returns-in-Bytes : goal.returns-in-Bytes
-returns-in-Bytes c = search prints
+pub unwrap-requires : goal.unwrap-requires
+unwrap-requires c = never_short c.requires c.list.ensures
 
-pub returns-in-OutShort : goal.returns-in-OutShort
-returns-in-OutShort c = absurd (search never_short)
+pub returns : goal.returns
+returns c = prints c.requires c.list.ensures c.unwrap.ensures

@@ -16,32 +16,32 @@ use Rattle.listing_lines.proofs.line_size.Goals.{After-number_size}
 use Rattle.listing_lines.proofs.line_size.Goals as goal
 
 -- the size of the number at k
-size_is : (c : After-number_size) → (c.number_size.result ≡ length (number_text (get_or c.args.row.now c.loop-k.k (pos 0)))) ×
+size_is : (c : After-number_size) → (c.number_size.result ≡ length (number_text (get_or c.args.row.now c.loop-z.z-index (pos 0)))) ×
     (c.number_size.result ≤ 21)
 size_is c =
-    let z = get_or c.args.row.now c.loop-k.k (pos 0) in let f : SFits w64 z = search rules in let e : c.number_size.result ≡ length (number_text z) =
+    let z = get_or c.args.row.now c.loop-z.z-index (pos 0) in let f : SFits w64 z = search rules in let e : c.number_size.result ≡ length (number_text z) =
     rw (to_z-of_z w64 _ f) at c.number_size.ensures in (e, omega (arith, number_most z))
 
-pub loop-k-init : goal.loop-k-init
-loop-k-init c = (omega arith, counting_start _)
+pub loop-z-init : goal.loop-z-init
+loop-z-init c = (omega arith, counting_start _)
 
 pub overflow_add-size : goal.overflow_add-size
 overflow_add-size c =
     let at = goal.at.overflow_add-size c in
     record { fits = omega (arith, (size_is at.After-number_size)) }
 
-pub overflow_add-size-in-loop-k : goal.overflow_add-size-in-loop-k
-overflow_add-size-in-loop-k c =
-    let at = goal.at.overflow_add-size-in-loop-k c in
-    record { fits = omega (arith, (size_is at.After-number_size), c.loop-k.invariant.1.sum, line_most c.args.row.now, c.requires) }
+pub overflow_add-size-in-loop-z : goal.overflow_add-size-in-loop-z
+overflow_add-size-in-loop-z c =
+    let at = goal.at.overflow_add-size-in-loop-z c in
+    record { fits = omega (arith, (size_is at.After-number_size), c.loop-z.invariant.1.sum, line_most c.args.row.now, c.requires) }
 
-pub loop-k-preserved : goal.loop-k-preserved
-loop-k-preserved c =
-    let at = goal.at.loop-k-preserved c in
+pub loop-z-preserved : goal.loop-z-preserved
+loop-z-preserved c =
+    let at = goal.at.loop-z-preserved c in
     let row = c.args.row.now in
-    let k = c.loop-k.k in
-    let e = line_at_lem row k c.loop-k-test.true in
-    (omega arith, counting_turn c.loop-k.invariant.1 (number_at row k) e (omega (arith, (size_is at.After-number_size), number_length row k)))
+    let k = c.loop-z.z-index in
+    let e = line_at_lem row k c.loop-z-test.true in
+    (omega arith, counting_turn c.loop-z.invariant.1 (number_at row k) e (omega (arith, (size_is at.After-number_size), number_length row k)))
 
 pub returns : goal.returns
-returns c = counting_end c.loop-k.invariant.1 (line_done _ _ c.loop-k-test.false)
+returns c = counting_end c.loop-z.invariant.1 (line_done _ _ c.loop-z-test.false)

@@ -26,17 +26,17 @@ returns-then-out-size c = short_listed _ _ _ _ _ (rw c.listing_size-size.ensures
 pub put_lines-requires : goal.put_lines-requires
 put_lines-requires c =
     let at = goal.at.put_lines-requires c in (
-      (text_inside (reading at.After-read_text) c.in-Counts.is).0,
-      rw (rows_are (reading at.After-read_text) c.in-Counts.is)
-          (omega (arith, size_is (reading at.After-read_text) c.in-Counts.is, (room at.After-read_text))),
+      (text_inside (reading at.After-read_text) c.in-Ok.is).0,
+      rw (rows_are (reading at.After-read_text) c.in-Ok.is)
+          (omega (arith, size_is (reading at.After-read_text) c.in-Ok.is, (room at.After-read_text))),
     )
 
-pub returns-in-Counts : goal.returns-in-Counts
-returns-in-Counts c =
-    let at = goal.at.returns-in-Counts c in
-    tokens_listed (reading at.After-read_text) c.in-Counts.is c.listing_size-size.ensures (room at.After-read_text) c.put_lines.ensures
+pub returns-in-Ok : goal.returns-in-Ok
+returns-in-Ok c =
+    let at = goal.at.returns-in-Ok c in
+    tokens_listed (reading at.After-read_text) c.in-Ok.is c.listing_size-size.ensures (room at.After-read_text) c.put_lines.ensures
 
-pub returns-in-Refused : goal.returns-in-Refused
-returns-in-Refused c =
-    let at = goal.at.returns-in-Refused c in
-    refusal_listed (reading at.After-read_text) c.in-Refused.is c.number.result c.number.ensures (room at.After-read_text) c.put_refusal.ensures
+pub returns-in-Err : goal.returns-in-Err
+returns-in-Err c =
+    let at = goal.at.returns-in-Err c in
+    refusal_listed (reading at.After-read_text) c.in-Err.is c.number.result c.number.ensures (room at.After-read_text) c.put_refusal.ensures

@@ -19,13 +19,13 @@ put_line-end-requires c = let T = c.args.tokens.now in
     let w = c.loop-i.invariant.1 in
     let e = rows_at T c.args.count i c.loop-i-test.true in
     let line = line_text (line_at (drop (i * record_width) T)) in
-    rw c.line_numbers-row.ensures
+    rw c.line_numbers.ensures
     (omega (arith, c.requires.1, ap length e, length-append line (rows_from T c.args.count (i + 1))))
 
 pub loop-i-preserved : goal.loop-i-preserved
 loop-i-preserved c = let a = c.args in
     let i = c.loop-i.i in
-    let w = rw c.line_numbers-row.ensures at c.put_line-end.ensures in
+    let w = rw c.line_numbers.ensures at c.put_line-end.ensures in
     let e = rows_at a.tokens.now a.count i c.loop-i-test.true in
     (omega arith, storing_to c.loop-i.invariant.1 (line_text (line_at (drop (i * record_width) a.tokens.now))) _ e w.1 w.0)
 

@@ -10,7 +10,7 @@ pub returns : goal.returns
 returns c = let p = c.requires in
     let f : SFits w64 c.args.t.nanos = (search rules) in
     rw (
-      c.number-number.ensures,
+      c.number.ensures,
       signed _ p.start,
       signed _ p.end,
       signed _ p.line,

@@ -2,8 +2,8 @@
 use Rattle.pxf.proofs.Given.{place_fit, place_given}
 use Rattle.pxf.proofs.texts.pxf_place_of.Goals as goal
 
-pub of_place-requires : goal.of_place-requires
-of_place-requires c = place_fit _ _ c.place_of-r.ensures
+pub give-requires : goal.give-requires
+give-requires c = place_fit _ _ c.place_of-r.ensures
 
 pub returns : goal.returns
 returns c = search place_given

@@ -2,8 +2,8 @@
 use Rattle.pxf.proofs.Given.{text_fit, text_read}
 use Rattle.pxf.proofs.texts.pxf_read_text.Goals as goal
 
-pub of_text-requires : goal.of_text-requires
-of_text-requires c = text_fit _ _ _ _ _ _ c.read_text-r.ensures.answer
+pub give-requires : goal.give-requires
+give-requires c = text_fit _ _ _ _ _ _ c.read_text-r.ensures.answer
 
 pub returns : goal.returns
 returns c = search text_read

@@ -2,8 +2,8 @@
 use Rattle.pxf.proofs.Given.{token_fit, token_read}
 use Rattle.pxf.proofs.texts.pxf_read_token.Goals as goal
 
-pub of_token-requires : goal.of_token-requires
-of_token-requires c = token_fit _ _ _ _ _ _ _ c.read_token-r.ensures.answer
+pub give-requires : goal.give-requires
+give-requires c = token_fit _ _ _ _ _ _ _ c.read_token-r.ensures.answer
 
 pub returns : goal.returns
 returns c = search token_read

@@ -1,6 +1,7 @@
 -- `is_place` walks to the offset and compares. Assumes nothing.
 use mathlib.Core.Bool.{true}
 use mathlib.Core.Path.{◌≡◌, sym, ◌∙◌}
+use borrow.Author.Tests.{ne_eqb}
 use Rattle.token.proofs.Places.{first_walkable}
 use Rattle.reading.specs.Refusals.{good_offset}
 use Rattle.reading.specs.Answers.{is_place}
@@ -24,9 +25,9 @@ walk-p-requires c =
 pub returns-then-place-p : goal.returns-then-place-p
 returns-then-place-p c =
     let at = goal.at.returns-then-place-p c in
-    other_line _ _ (good at.Else-not-good_offset) c.walk-p.result c.walk-p.ensures c.if-place-p.true
+    same_line _ c.args.place (good at.Else-not-good_offset) c.walk-p.result c.walk-p.ensures c.if-place-p.true
 
-pub returns : goal.returns
-returns c =
-    let at = goal.at.returns c in
-    same_line _ _ (good at.Else-not-good_offset) c.walk-p.result c.walk-p.ensures c.if-place-p.false
+pub returns-else-place-p : goal.returns-else-place-p
+returns-else-place-p c =
+    let at = goal.at.returns-else-place-p c in
+    ne_eqb _ _ c.if-place-p.false ∙ other_line _ c.args.place (good at.Else-not-good_offset) c.walk-p.result c.walk-p.ensures c.if-place-p.false

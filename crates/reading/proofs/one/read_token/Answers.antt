@@ -1,109 +1,75 @@
--- `read_token` answers by the first test that fails, before anything is stored; else it stores the token. What has passed so far is named stage by
--- stage. Assumes nothing.
+-- `read_token` answers by the first check that fails, before anything is stored; else it stores the token. Assumes nothing.
 use mathlib.Core.Bool.{true}
 use mathlib.Core.Path.{◌≡◌, refl, sym, ◌∙◌}
 use native.Mathlib.Omega.{arith}
-use Rattle.base.specs.Bytes.{AreBytes}
+use Rattle.std.proofs.lemmas.Result.{err_from_is_err_and}
+use Rattle.std.specs.Prelude.{Ok}
 use Rattle.reading.specs.Refusals.{judge_of}
 use Rattle.reading.specs.Answers.{is_place}
-use Rattle.reading.specs.declared.judge.Judged.TheVariants.{Fit}
-use Rattle.reading.proofs.Refusals.{fitting, well_octets, tokens_short, strings_short, reports_short}
-use Rattle.reading.proofs.TokenAnswers.{walkable, few, measured, unfit, no_place, short, Passed, room, done}
-use Rattle.reading.proofs.one.read_token.Goals.{Else-not-is_place, Else-reports-count}
+use Rattle.reading.proofs.Refusals.{fitting, well_octets}
+use Rattle.reading.proofs.TokenAnswers.{walkable, few, counted, unfit, no_place, short, Passed, room, done}
+use Rattle.reading.proofs.one.read_token.Goals.{Else-not-is_place, In_ok-fit}
 use Rattle.reading.proofs.one.read_token.Goals as goal
 
--- the place is one of the text
+-- the text fits, and the place is one of it
+fit : (c : Else-not-is_place) → judge_of c.args.text.now ≡ Ok tt
+fit c = sym c.in_ok-judge.ensures
+
 placed : (c : Else-not-is_place) → let a = c.args in is_place a.text.now a.place ≡ true
 placed c = sym c.is_place.ensures ∙ c.if-not-is_place.false
 
-passed : (c : Else-reports-count) → let a = c.args in Passed a.mode a.limit a.text.now a.place a.tokens.now a.strings.now a.reports.now
-    c.next_token-t.result c.string_size-size.result
+-- what has passed all checks
+passed : (c : In_ok-fit) → let a = c.args in Passed a.mode a.limit a.text.now a.place a.tokens.now a.strings.now a.reports.now
+    c.next_token-t.result c.string_size.result
 passed c =
-    let fit : judge_of c.args.text.now ≡ Fit = sym c.judge.ensures ∙ c.in-Fit.is in
-    let placed : let a = c.args in is_place a.text.now a.place ≡ true = sym c.is_place.ensures ∙ c.if-not-is_place.false in
+    let j : judge_of c.args.text.now ≡ Ok tt = sym c.in_ok-judge.ensures in
+    let f : let a = c.args in is_place a.text.now a.place ≡ true = sym c.is_place.ensures ∙ c.if-not-is_place.false in
     record {
-      fit = fit;
-      place = placed;
-      tokens = c.if-tokens-lt-RECORD_WIDTH.false;
+      fit = j;
+      place = f;
       token = c.next_token-t.ensures;
-      size =
-          c.string_size-size.ensures;
-      strings = c.if-strings-size.false;
-      reports = c.if-reports-count.false;
+      size = c.string_size.ensures;
+      room = rw (counted _ _ _ _ j f c.next_token-t.ensures c.string_size.ensures) at (sym c.fit.ensures ∙ c.in_ok-fit.was);
     }
 
--- ---- the needs
-pub returns-in-Unfit : goal.returns-in-Unfit
-returns-in-Unfit c = unfit (sym c.judge.ensures ∙ c.in-Unfit.is)
+pub returns-in_err-judge : goal.returns-in_err-judge
+returns-in_err-judge c =
+    let p = err_from_is_err_and c.from_residual.result c.from_residual.ensures.1 in
+    rw (p.1, p.2) (unfit (sym c.in_err-judge.ensures))
 
 pub is_place-requires : goal.is_place-requires
-is_place-requires c =
-    let fit : judge_of c.args.text.now ≡ Fit = sym c.judge.ensures ∙ c.in-Fit.is in
-    (fitting _ fit).0
+is_place-requires c = (fitting _ (sym c.in_ok-judge.ensures)).0
 
 pub returns-then-not-is_place : goal.returns-then-not-is_place
-returns-then-not-is_place c =
-    let fit : judge_of c.args.text.now ≡ Fit = sym c.judge.ensures ∙ c.in-Fit.is in
-    no_place fit (sym c.is_place.ensures ∙ c.if-not-is_place.true)
-
-pub returns-then-tokens-lt-RECORD_WIDTH : goal.returns-then-tokens-lt-RECORD_WIDTH
-returns-then-tokens-lt-RECORD_WIDTH c =
-    let at = goal.at.returns-then-tokens-lt-RECORD_WIDTH c in
-    let fit : judge_of c.args.text.now ≡ Fit = sym c.judge.ensures ∙ c.in-Fit.is in
-    short fit (placed at.Else-not-is_place) (tokens_short (measured _ _ _ _ fit (placed at.Else-not-is_place) refl refl)
-    c.if-tokens-lt-RECORD_WIDTH.true)
+returns-then-not-is_place c = no_place (sym c.in_ok-judge.ensures) (sym c.is_place.ensures ∙ c.if-not-is_place.true)
 
 pub next_token-t-requires : goal.next_token-t-requires
 next_token-t-requires c =
     let at = goal.at.next_token-t-requires c in
-    let fit : judge_of c.args.text.now ≡ Fit = sym c.judge.ensures ∙ c.in-Fit.is in
     let a = c.args in
-    (walkable a.mode a.limit a.text.now a.place fit (placed at.Else-not-is_place), well_octets _ (fitting _ fit).1)
+    let j = fit at.Else-not-is_place in
+    (walkable a.mode a.limit a.text.now a.place j (placed at.Else-not-is_place), well_octets _ (fitting _ j).1)
 
-pub returns-then-strings-size : goal.returns-then-strings-size
-returns-then-strings-size c =
-    let at = goal.at.returns-then-strings-size c in
-    let fit : judge_of c.args.text.now ≡ Fit = sym c.judge.ensures ∙ c.in-Fit.is in
-    short fit (placed at.Else-not-is_place)
-    (strings_short (measured _ _ _ _ fit (placed at.Else-not-is_place) c.next_token-t.ensures c.string_size-size.ensures)
-    c.if-tokens-lt-RECORD_WIDTH.false c.if-strings-size.true)
+pub fit-requires : goal.fit-requires
+fit-requires c =
+    let at = goal.at.fit-requires c in
+    few _ _ _ _ (fit at.Else-not-is_place) (placed at.Else-not-is_place) c.next_token-t.ensures
 
-pub overflow_mul-count : goal.overflow_mul-count
-overflow_mul-count c =
-    let at = goal.at.overflow_mul-count c in
-    let fit : judge_of c.args.text.now ≡ Fit = sym c.judge.ensures ∙ c.in-Fit.is in
-    let a = c.args in
-    record { fits = omega (arith, few a.mode a.limit a.text.now a.place fit (placed at.Else-not-is_place) c.next_token-t.ensures, (fitting _ fit).0) }
+pub returns-in_err-fit : goal.returns-in_err-fit
+returns-in_err-fit c =
+    let at = goal.at.returns-in_err-fit c in
+    let j = fit at.Else-not-is_place in
+    let f = placed at.Else-not-is_place in
+    let p = err_from_is_err_and c.from_residual-in_err-fit.result c.from_residual-in_err-fit.ensures.1 in
+    rw (p.1, p.2)
+    (short j f (rw (counted _ _ _ _ j f c.next_token-t.ensures c.string_size.ensures) at (sym c.fit.ensures ∙ c.in_err-fit.was)))
 
-pub returns-then-reports-count : goal.returns-then-reports-count
-returns-then-reports-count c =
-    let at = goal.at.returns-then-reports-count c in
-    let fit : judge_of c.args.text.now ≡ Fit = sym c.judge.ensures ∙ c.in-Fit.is in
-    short fit (placed at.Else-not-is_place)
-    (reports_short (measured _ _ _ _ fit (placed at.Else-not-is_place) c.next_token-t.ensures c.string_size-size.ensures)
-    c.if-tokens-lt-RECORD_WIDTH.false c.if-strings-size.false
-    c.if-reports-count.true)
-
-pub put_record-requires : goal.put_record-requires
-put_record-requires c =
-    let at = goal.at.put_record-requires c in
-    let bytes : AreBytes c.args.text.now = λ k. (c.type_inv.text k).fits in
-    (room (passed at.Else-reports-count) bytes).of_record
-
-pub put_value-requires : goal.put_value-requires
-put_value-requires c =
-    let at = goal.at.put_value-requires c in
-    let bytes : AreBytes c.args.text.now = λ k. (c.type_inv.text k).fits in
-    (room (passed at.Else-reports-count) bytes).of_string
-
-pub put_notes-requires : goal.put_notes-requires
-put_notes-requires c =
-    let at = goal.at.put_notes-requires c in
-    let bytes : AreBytes c.args.text.now = λ k. (c.type_inv.text k).fits in
-    (room (passed at.Else-reports-count) bytes).of_notes
+pub put_token-requires : goal.put_token-requires
+put_token-requires c =
+    let at = goal.at.put_token-requires c in
+    room (passed at.In_ok-fit) (λ k. (c.type_inv.text k).fits)
 
 pub returns : goal.returns
 returns c =
     let at = goal.at.returns c in
-    done (passed at.Else-reports-count)
-    (record { of_record = c.put_record.ensures; of_string = c.put_value.ensures; of_notes = c.put_notes.ensures })
+    done (passed at.In_ok-fit) c.put_token.ensures

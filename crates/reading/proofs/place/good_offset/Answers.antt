@@ -5,8 +5,8 @@ use Rattle.reading.proofs.place.good_offset.Goals as goal
 
 pub returns-then-offset-text : goal.returns-then-offset-text
 unfolding good_offset
-returns-then-offset-text c = rw (lt-leb _ _ c.if-offset-text.true)
+returns-then-offset-text c = rw (le-leb _ _ c.if-offset-text.true, c.is_inside.ensures)
 
-pub returns : goal.returns
+pub returns-else-offset-text : goal.returns-else-offset-text
 unfolding good_offset
-returns c = rw (le-leb _ _ c.if-offset-text.false, c.is_inside.ensures)
+returns-else-offset-text c = rw (lt-leb _ _ c.if-offset-text.false)

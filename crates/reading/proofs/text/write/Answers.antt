@@ -8,7 +8,7 @@ use Rattle.reading.proofs.text.write.Goals as goal
 
 -- ---- a turn, once the token is stored and tested
 pub loop-mode-init : goal.loop-mode-init
-loop-mode-init c = search passing_start
+loop-mode-init c = let e = c.default-counts.ensures in rw (e.0, e.1.0, e.1.1) (search passing_start)
 
 pub put_token-requires : goal.put_token-requires
 put_token-requires c = passing_room c.loop-mode.invariant c.each_token-t.ensures (λ k. (c.type_inv.text k).fits)
@@ -26,23 +26,23 @@ pub returns-then-is_eof : goal.returns-then-is_eof
 returns-then-is_eof c = passing_end c.loop-mode.invariant c.each_token-t.ensures c.put_token.ensures
     (eqb-true _ _ (sym c.is_eof.ensures ∙ c.if-is_eof.true))
 
-pub overflow_add-m : goal.overflow_add-m
-overflow_add-m c = record {
+pub overflow_add-counts-in-loop-mode : goal.overflow_add-counts-in-loop-mode
+overflow_add-counts-in-loop-mode c = record {
   fits = omega (
     arith,
-    c.string_size-m.ensures,
+    c.string_size.ensures,
     passing_few c.loop-mode.invariant c.each_token-t.ensures,
     c.loop-mode.invariant.walkable.short,
   );
 }
 
-pub overflow_add-k : goal.overflow_add-k
-overflow_add-k c = record { fits = omega (arith, passing_few c.loop-mode.invariant c.each_token-t.ensures, c.loop-mode.invariant.walkable.short) }
+pub overflow_add-counts-in-loop-mode-2 : goal.overflow_add-counts-in-loop-mode-2
+overflow_add-counts-in-loop-mode-2 c = record { fits = omega (arith, passing_few c.loop-mode.invariant c.each_token-t.ensures, c.loop-mode.invariant.walkable.short) }
 
 pub loop-mode-smaller : goal.loop-mode-smaller
 loop-mode-smaller c = passing_less c.loop-mode.invariant c.each_token-t.ensures (eqb-false _ _ (sym c.is_eof.ensures ∙ c.if-is_eof.false))
 
 pub loop-mode-preserved : goal.loop-mode-preserved
-loop-mode-preserved c = rw c.string_size-m.ensures
+loop-mode-preserved c = rw c.string_size.ensures
     (passing_turn c.loop-mode.invariant c.each_token-t.ensures c.put_token.ensures
     (eqb-false _ _ (sym c.is_eof.ensures ∙ c.if-is_eof.false)))

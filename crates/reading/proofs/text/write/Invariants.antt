@@ -5,7 +5,7 @@ use Rattle.reading.proofs.Turns.{Passing}
 use Rattle.reading.proofs.text.write.Given as goal
 
 abbrev pub invariant-loop-mode : goal.invariant-loop-mode
-invariant-loop-mode l = Passing l.mode l.limit l.text l.initial.tokens l.initial.strings l.initial.reports l.tokens l.strings l.reports l.place l.n l.m l.k
+invariant-loop-mode l = Passing l.mode l.limit l.text l.initial.tokens l.initial.strings l.initial.reports l.tokens l.strings l.reports l.place l.counts.tokens l.counts.strings l.counts.reports
 
 abbrev pub decreases-loop-mode : goal.decreases-loop-mode
 decreases-loop-mode l = length l.text - l.place.offset

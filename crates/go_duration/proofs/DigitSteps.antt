@@ -1,14 +1,15 @@
 -- For `leading_fraction`: the digits of a fraction by the tests that the code makes, kept or dropped. By induction on the list. Assumes nothing.
-use Rattle.std.proofs.Common.{◌≡◌, ℕ, suc, ◌+◌, ◌<◌, ◌≤◌, Some, None, true, false, ltb, List, [], ◌∷◌, length, get_or, take, drop, sym, refl, ◌∙◌, le_refl, add-zero, add-one, arith, length-take, length-drop, get_or-take, get_or-drop, drop-cons, le-ltb, lt-ltb}
+use Rattle.std.proofs.Common.{◌≡◌, ℕ, suc, ◌+◌, ◌<◌, ◌≤◌, Some, None, true, false, eqb, ltb, List, [], ◌∷◌, length, drop, sym, refl, ◌∙◌, le_refl, add-zero, zero-add, add-one, arith, get_or-drop, drop-cons, eqb-true, le-ltb, lt-ltb}
 use Rattle.std.proofs.lemmas.Option.{none-some}
 use Rattle.base.specs.Choice.{pick}
 use Rattle.base.specs.Bytes.{byte}
 use Rattle.base.specs.Classes.{is_digit}
 use Rattle.base.specs.Runs.{run, reach}
 use Rattle.base.specs.Digits.{in_digits}
-use Rattle.base.proofs.Tests.{by_cases, true_false, no_digit, pick_first, pick_second}
-use Rattle.base.proofs.Reaches.{run_le, reach_all, reach_step}
+use Rattle.base.proofs.Tests.{by_cases, true_false, in_text, no_digit, pick_first, pick_second}
+use Rattle.base.proofs.Reaches.{reach_all, reach_step}
 use Rattle.go_duration.specs.Fraction.{more, room, Acc, acc, no_digits, add_digit, read_digits}
+use Rattle.go_duration.specs.Digits.{is_zero}
 
 -- ---- the digits that are dropped, which are counted alone
 read_over : (l : List ℕ) (f k n : ℕ) → read_digits l (acc f k n true) ≡ acc f k (n + run in_digits l) true
@@ -37,49 +38,52 @@ pub record Kept (s : List ℕ) (n i f : ℕ) : Type 0 where
   pub ran : read_digits (drop i s) (acc f i i false) ≡ read_digits s no_digits
   pub ends : reach in_digits s i ≡ n
 
+-- zeros are kept, and form 0
+zero_digit : is_digit 48 ≡ true
+unfolding is_digit
+zero_digit = refl
+
+zeros_read : (s : List ℕ) (k : ℕ)
+    → read_digits (drop (run is_zero s) s) (acc 0 (k + run is_zero s) (k + run is_zero s) false) ≡ read_digits s (acc 0 k k false)
+unfolding read_digits add_digit run
+zeros_read [] k = rw (add-zero k)
+zeros_read (b ∷ s) k =
+    let z : k + suc (run is_zero s) ≡ k + 1 + run is_zero s = omega arith in
+    by_cases (eqb b 48) (λ e. rw (e, eqb-true b 48 e, zero_digit, z) (zeros_read s (k + 1))) (λ e. rw (e, add-zero k))
+
+pub kept_zeros : (s : List ℕ) (i : ℕ) → i ≡ reach is_zero s 0 → (n : ℕ) → n ≡ reach in_digits s i → Kept s n i 0
+unfolding reach
+kept_zeros s i e n h =
+    let z : i ≡ run is_zero s = e ∙ zero-add (run is_zero s) in
+    record { ran = rw z (rw zero-add at (zeros_read s 0)); ends = sym h }
+
 module _ (s : List ℕ) (n i f : ℕ) (u : Kept s n i f) where
-  module _ (h : i < length (take n s)) where
-    before : i < n
-    before = omega (arith, length-take n s)
+  module _ (h : i < n) where
+    pub kept_digit : is_digit (byte s i) ≡ true
+    kept_digit = reach_all in_digits s i i (le_refl i) (rw u.ends h)
 
-    inside : i < length s
-    inside = omega (arith, length-take n s)
+    pub kept_inside : i < length s
+    kept_inside = in_text is_digit s i no_digit kept_digit
 
-    here : is_digit (byte s i) ≡ true
-    here = reach_all in_digits s i i (le_refl i) (rw u.ends before)
-
-    -- the digit at i, as the loop has it
-    digit : ℕ
-    digit = get_or (take n s) i 0
-
-    digit_is : digit ≡ byte s i
-    unfolding digit
-    digit_is = get_or-take n s i 0 before
-
-    pub kept_digit : is_digit (get_or (take n s) i 0) ≡ true
-    unfolding digit
-    kept_digit = rw digit_is here
-
-    pub kept_more : (g : ℕ) → Some g ≡ pick (room f (get_or (take n s) i 0)) (Some (more f (get_or (take n s) i 0))) None → Kept s n (i + 1) g
-    unfolding read_digits add_digit digit
+    pub kept_more : (g : ℕ) → Some g ≡ pick (room f (byte s i)) (Some (more f (byte s i))) None → Kept s n (i + 1) g
+    unfolding read_digits add_digit
     kept_more g e =
-        let p = pick_first (room f (byte s i)) (none-some g) (sym (rw digit_is at e)) in
-        let c : drop i s ≡ byte s i ∷ drop (i + 1) s = rw (add-one, drop-cons s i 0 inside) in
+        let p = pick_first (room f (byte s i)) (none-some g) (sym e) in
+        let c : drop i s ≡ byte s i ∷ drop (i + 1) s = rw (add-one, drop-cons s i 0 kept_inside) in
         let q : more f (byte s i) ≡ g = cc in
-        record { ran = rw q at (rw (c, here, p.0) at u.ran); ends = reach_step in_digits s i inside here ∙ u.ends }
+        record { ran = rw q at (rw (c, kept_digit, p.0) at u.ran); ends = reach_step in_digits s i kept_inside kept_digit ∙ u.ends }
 
-    pub kept_over : None ≡ pick (room f (get_or (take n s) i 0)) (Some (more f (get_or (take n s) i 0))) None
-        → acc f i n (ltb i n) ≡ read_digits s no_digits
-    unfolding reach digit
+    -- where the next digit is not kept, it and those after it are counted alone
+    pub kept_over : None ≡ pick (room f (byte s i)) (Some (more f (byte s i))) None → acc f i n (ltb i n) ≡ read_digits s no_digits
+    unfolding reach
     kept_over e =
-        let p = pick_second (room f (byte s i)) (λ z. none-some _ (sym z)) (sym (rw digit_is at e)) in
+        let p = pick_second (room f (byte s i)) (λ z. none-some _ (sym z)) (sym e) in
         let z : byte (drop i s) 0 ≡ byte s i = rw (get_or-drop, add-zero) in
-        rw (← u.ends) (sym (read_stop (drop i s) f i (rw z here) (rw z p.0)) ∙ u.ran)
+        rw (← u.ends) (sym (read_stop (drop i s) f i (rw z kept_digit) (rw z p.0)) ∙ u.ran)
 
-  pub kept_all : i ≤ length (take n s) → length (take n s) ≤ i → acc f n n (ltb n n) ≡ read_digits s no_digits
+  pub kept_all : n ≤ i → acc f n n (ltb n n) ≡ read_digits s no_digits
   unfolding reach
-  kept_all h k =
-      let l : i ≤ length s = omega (arith, length-take n s) in
-      let e : i ≡ n = omega (arith, u.ends, length-take n s, run_le in_digits (drop i s), length-drop i s) in
+  kept_all h =
+      let e : i ≡ n = omega (arith, u.ends) in
       let z : run in_digits (drop i s) ≡ 0 = omega (arith, u.ends) in
       rw (le-ltb n n (le_refl n), ← e) (sym (read_none (drop i s) (acc f i i false) z) ∙ u.ran)

@@ -1,7 +1,8 @@
 // The fraction of a duration: its digits, and its nanoseconds in floating point.
 ghost use Rattle.std.specs.Prelude.{◌≡◌, ◌<◌, ◌≤◌, ◌^◌};
+ghost use Rattle.base.specs.Runs.{reach};
 ghost use Rattle.go_duration.specs.Fraction.{most, scale_of, frac_of, no_digits, read_digits};
-ghost use Rattle.go_duration.specs.Digits.{UnitNanos, acc_of};
+ghost use Rattle.go_duration.specs.Digits.{UnitNanos, acc_of, is_zero};
 
 use crate::with_digit;
 use base::digits::digits_end;
@@ -11,7 +12,7 @@ use std::num::{nearest_u64_to_f64, truncating_f64_to_u64};
 const INFINITE: usize = 309;
 
 // A fraction's digits: the number that the kept ones form, how many those are, and how many there are.
-#[derive(Clone, Copy)]
+#[derive(Clone, Copy, PartialEq, Eq, Debug)]
 pub struct Fraction {
     pub f: u64,
     pub kept: usize,
@@ -57,14 +58,23 @@ fn scale_of(k: usize) -> f64
     scale
 }
 
-// Go's `leadingFraction`: the digits at the front of `s`. None is kept behind one that would not fit.
+// How many zeros stand at the front of `s`.
+fn zeros(s: &[u8]) -> usize
+    ensures { result ≡ reach is_zero s.now 0 }
+{
+    s.iter().position(|c| *c != b'0').unwrap_or(s.len())
+}
+
+// Go's `leadingFraction`: the digits at the front of `s`. The zeros there, which may be many, form 0 and need no sums, and neither do the digits
+// behind one that does not fit.
 pub fn leading_fraction(s: &[u8]) -> Fraction
     ensures { acc_of result.f result.kept result.count ≡ read_digits s.now no_digits }
 {
-    let count = digits_end(s, 0);
+    let zeros = zeros(s);
+    let count = digits_end(s, zeros);
     let mut f = 0;
-    for (kept, c) in s[..count].iter().enumerate() {
-        let Some(longer) = with_digit(f, *c) else {
+    for kept in zeros..count {
+        let Some(longer) = with_digit(f, s[kept]) else {
             return Fraction { f, kept, count };
         };
         f = longer;

@@ -1,7 +1,7 @@
 // The nanoseconds of a duration, as go_duration.rs reads them.
 #![tactic(auto)]
 
-ghost use Rattle.std.specs.Prelude.{◌≡◌, ◌&&◌, Some, None, IsTrue};
+ghost use Rattle.std.specs.Prelude.{◌≡◌, IsTrue};
 ghost use Rattle.base.specs.Choice.{pick};
 ghost use Rattle.base.specs.Classes.{is_digit};
 ghost use Rattle.go_duration.specs.Fraction.{more, room};
@@ -13,7 +13,7 @@ pub mod part;
 // 2^63, the bound on numbers, products and sums.
 const MOST: u64 = 9223372036854775808;
 
-// `x` with the digit `c` behind it, unless that is above 2^63: the first test is made before the sum, which could wrap.
+// `x` with the digit `c` behind it, unless that is above 2^63. The first test stands before the sum, which could wrap.
 fn with_digit(x: u64, c: u8) -> Option<u64>
     requires { IsTrue (is_digit c) }
     ensures { result ≡ pick (room x c) (Some (more x c)) None }

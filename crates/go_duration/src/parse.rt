@@ -1,5 +1,5 @@
 // The parts of a duration, and its sign.
-ghost use Rattle.std.specs.Prelude.{◌≡◌, ◌≤◌, Some};
+ghost use Rattle.std.specs.Prelude.{◌≡◌, ◌≤◌};
 ghost use Rattle.go_duration.specs.Fraction.{most};
 ghost use Rattle.go_duration.specs.Parse.{sum_from, with_sign, parse_of};
 ghost use Rattle.go_duration.specs.Stages.{parse_unsigned};
@@ -7,7 +7,7 @@ ghost use Rattle.go_duration.specs.Stages.{parse_unsigned};
 use crate::MOST;
 use crate::part::{Part, next_part};
 
-// The sum of the parts of `s`: a sum above 2^63 is refused before it is made, since it could wrap.
+// The sum of the parts of `s`. A sum above 2^63 is refused before it is made, since it could wrap.
 pub fn sum(s: &[u8]) -> Option<u64>
     ensures { result ≡ sum_from 0 0 s.now }
 {

@@ -10,7 +10,6 @@ ghost use Rattle.go_duration.specs.Stages.{leading_int, fraction_at, fraction_st
 use crate::fraction::{Fraction, leading_fraction};
 use crate::{MOST, with_digit};
 use base::class::is_digit;
-use base::digits::digits_end;
 
 // One part.
 #[derive(Clone, Copy, PartialEq, Eq, Debug)]
@@ -32,12 +31,17 @@ pub struct Whole {
 pub fn leading_int(s: &[u8]) -> Option<Whole>
     ensures { result ≡ leading_int s.now }
 {
-    let used = digits_end(s, 0);
     let mut value = 0;
-    for c in &s[..used] {
+    for (used, c) in s.iter().enumerate() {
+        if !is_digit(*c) {
+            return Some(Whole { value, used });
+        }
         value = with_digit(value, *c)?;
     }
-    Some(Whole { value, used })
+    Some(Whole {
+        value,
+        used: s.len(),
+    })
 }
 
 // How many bytes the unit at the front of `s` has: up to the next digit or point.

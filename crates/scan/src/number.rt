@@ -6,7 +6,7 @@ ghost use Rattle.scan.specs.Number.{goes_on_float, number_kind, value_end, lex_t
 use crate::run::{Run, past_units, reach_run};
 use base::class::{begins_unit, is_digit, is_ident_part};
 use base::peek;
-use go_duration::parse::{Parsed, parse};
+use go_duration::parse::parse;
 use lexeme::Lexeme;
 use rfc3339::parse::Instant;
 use token::kind::TokenKind;
@@ -87,8 +87,8 @@ fn lex_duration(s: &[u8], f: usize) -> Lexeme
 {
     let len = past_units(s, f);
     match parse(&s[..len]) {
-        Parsed::Nanos(nanos) => lexeme::duration(len, nanos),
-        Parsed::Bad => lexeme::illegal(reason::BAD_DURATION, 0, len),
+        Some(nanos) => lexeme::duration(len, nanos),
+        None => lexeme::illegal(reason::BAD_DURATION, 0, len),
     }
 }
 

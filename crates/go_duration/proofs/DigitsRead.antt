@@ -1,6 +1,7 @@
--- For `Fraction::nanos`, PartSteps and WrittenSums: what `read_digits` reads. The kept digits are the first ones of all, and digits are dropped only where a
--- further one would not fit; so the distance of one nanosecond holds of `fraction_nanos`. By induction on the bytes. Assumes nothing.
-use Rattle.std.proofs.Common.{◌≡◌, ℕ, ◌+◌, ◌-◌, ◌*◌, ◌/◌, ◌^◌, ◌<◌, ◌≤◌, Bool, true, false, not, ◌&&◌, ltb, leb, List, [], ◌∷◌, sym, refl, ◌∙◌, inl, inr, add-zero, mul_comm, pos_of_ne-zero, div-lt_iff_lt-mul, mul-lt-mul_of_pos_right, zero-add, zero-mul, div-one, arith, lit<, lit≤, pow-add, ltb-false, ltb-true, le-ltb, lt-ltb, leb-false, leb-true}
+-- For `Fraction::nanos`, `leading_fraction`, FrontDigits and WrittenSums: what `read_digits` reads. The kept digits are the first ones of all, and digits
+-- are dropped only where a further one would not fit; so the distance of one nanosecond holds of `fraction_nanos`. By induction on the bytes. Assumes
+-- nothing.
+use Rattle.std.proofs.Common.{◌≡◌, ℕ, ◌+◌, ◌-◌, ◌*◌, ◌/◌, ◌^◌, ◌<◌, ◌≤◌, Bool, true, false, not, ◌&&◌, ltb, leb, List, [], ◌∷◌, sym, refl, ◌∙◌, inl, inr, add-zero, mul_comm, pos_of_ne-zero, div-lt_iff_lt-mul, zero-add, zero-mul, div-one, arith, lit<, lit≤, pow-add, ltb-false, ltb-true, lt-ltb, leb-false, leb-true}
 use native.Mathlib.Nat.{zero-div, div-div-eq-div-mul, one-le-pow}
 use Rattle.base.specs.Classes.{is_digit}
 use Rattle.base.proofs.Tests.{and_right, by_cases, true_false, digit_range}
@@ -146,16 +147,3 @@ module _ (f k n : ℕ) (o : Bool) where
     pub frac_none : f ≡ 0 → 0 ≡ frac_of (acc f k n o) u
     unfolding frac_of
     frac_none e = rw e
-
--- ---- and so it is at most the unit, which the sum after it needs
-acc_proper : (a : Acc) (w : ℕ) → Took a w → w < 10 ^ count_of a
-acc_proper (acc f k n o) w t = t.proper
-
-exact_lt : (l : List ℕ) (u : ℕ) → 0 < u → exact_of l u < u
-unfolding exact_of
-exact_lt l u U =
-    let p : all_of l 0 < 10 ^ digit_count l = rw (← read_count l) (acc_proper (read_digits l no_digits) (all_of l 0) (read_took l)) in
-    (div-lt_iff_lt-mul (one-le-pow (digit_count l) 10 (lit< tt))).1 (rw (mul_comm u) (mul-lt-mul_of_pos_right p U))
-
-pub frac_le : (l : List ℕ) (u : ℕ) → UnitNanos u → fraction_nanos l u ≤ u
-frac_le l u v = omega (arith, read_distance l u v, exact_lt l u v.some)

@@ -1,6 +1,6 @@
 -- For `leading_int`, `fraction_at` and `next_part`: the digits at the front of a list, their number byte by byte, how many they are, and the test of
 -- overflow. By induction on the list. Assumes nothing.
-use Rattle.std.proofs.Common.{◌≡◌, ℕ, ◌+◌, ◌<◌, ◌≤◌, Option, Some, None, true, false, ltb, leb, List, [], ◌∷◌, length, take, drop, sym, refl, ap, ◌∙◌, zero-le, le_refl, zero-add, add-one, arith, drop_of_length-le, drop-cons, le-ltb, lt-ltb, ltb-false, ltb-true, leb-true, leb-false}
+use Rattle.std.proofs.Common.{◌≡◌, ℕ, ◌+◌, ◌<◌, ◌≤◌, Some, None, true, false, ltb, leb, List, [], ◌∷◌, length, take, drop, sym, refl, ap, ◌∙◌, zero-le, le_refl, zero-add, add-one, arith, drop_of_length-le, drop-cons, le-ltb, lt-ltb, ltb-false, ltb-true, leb-true, leb-false}
 use Rattle.std.proofs.lemmas.Option.{none-some}
 use Rattle.base.specs.Choice.{pick}
 use Rattle.base.specs.Bytes.{byte}

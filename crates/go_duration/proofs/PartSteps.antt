@@ -1,11 +1,11 @@
 -- For `fraction_at`, `nanos_part`, `next_part` and `sum`: one part by the stages that the code has. What follows the whole number is the fraction that
 -- `part_of` speaks of, and an accepted part has a byte. By cases on the point and the tests. Assumes nothing.
-use Rattle.std.proofs.Common.{◌≡◌, ℕ, ◌+◌, ◌-◌, ◌*◌, ◌<◌, ◌≤◌, Option, Some, None, true, false, ◌&&◌, eqb, ltb, leb, List, [], length, take, drop, sym, refl, ap, ◌∙◌, zero-le, pos_of_ne-zero, arith, le-ltb, lt-ltb, eq-eqb, ne_eqb, eqb-true, leb-true, leb-false}
+use Rattle.std.proofs.Common.{◌≡◌, ℕ, ◌+◌, ◌-◌, ◌*◌, ◌<◌, ◌≤◌, Option, Some, None, true, false, ◌&&◌, eqb, ltb, leb, List, length, take, drop, sym, refl, ◌∙◌, zero-le, pos_of_ne-zero, arith, le-ltb, lt-ltb, eq-eqb, ne_eqb, eqb-true, leb-true, leb-false}
 use Rattle.std.specs.Bool.{then_some}
 use Rattle.std.specs.Option.{option_map}
 use Rattle.std.proofs.lemmas.Option.{none-some}
 use borrow.Author.Tests.{eqb-false}
-use Rattle.base.specs.Choice.{pick, nonzero}
+use Rattle.base.specs.Choice.{nonzero}
 use Rattle.base.specs.Bytes.{byte, same_bytes}
 use Rattle.base.specs.Runs.{reach}
 use Rattle.base.specs.Digits.{in_digits}
@@ -149,8 +149,10 @@ module _ (s : List ℕ) where
         pub next_nanos : (r : Option ℕ) → r ≡ nanos_part w.value a u → part_of s ≡ option_map (λ x. record { nanos = x; used = e + z }) r
         unfolding part_of nanos_part
         next_nanos r k =
-            rw (k, some_digit, ← t.value, le-ltb most w.value t.fits, known.0, ne_eqb u 0 (λ o. let l = known.1 in omega arith), nanos_is, ← t.used, ← p, known.0, unit_end_is)
-            (by_cases (ltb most (w.value * u)) (λ o. rw o) (λ o. by_cases (ltb most (w.value * u + frac_of a u)) (λ i. rw (o, i)) (λ i. rw (o, i))))
+            rw (k, some_digit, ← t.value, le-ltb most w.value t.fits, known.0, ne_eqb u 0 (λ o. let l = known.1 in omega arith))
+            (rw (nanos_is, ← t.used, ← p, known.0, unit_end_is)
+            (by_cases (ltb most (w.value * u)) (λ o. rw o)
+            (λ o. by_cases (ltb most (w.value * u + frac_of a u)) (λ i. rw (o, i)) (λ i. rw (o, i)))))
 
   -- an accepted part has a byte and lies in the text
   pub record Used (n : ℕ) : Type 0 where

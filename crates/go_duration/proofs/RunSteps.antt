@@ -1,6 +1,6 @@
 -- For `signed`, `unsigned_run` and `parse`: the finished sum under its sign, and the run after its sign, by the patterns of the code. By cases on the
 -- list. Assumes nothing.
-use Rattle.std.proofs.Common.{◌≡◌, ℕ, suc, ◌<◌, ◌≤◌, Bool, true, false, ◌&&◌, ◌||◌, Some, None, Result, Ok, Err, eqb, ltb, List, [], ◌∷◌, length, drop, ℤ, pos, ◌-ℤ◌, sym, refl, ap, ◌∙◌, not-suc-le-zero, arith, ne_eqb, eq-eqb, eqb-true, ltb-true, ltb-false, w64}
+use Rattle.std.proofs.Common.{◌≡◌, ℕ, suc, ◌<◌, ◌≤◌, Bool, true, false, ◌&&◌, Some, None, Result, Ok, Err, eqb, ltb, List, [], ◌∷◌, length, drop, ℤ, pos, ◌-ℤ◌, refl, ap, ◌∙◌, arith, ne_eqb, eqb-true, ltb-true, ltb-false, w64}
 use Rattle.std.specs.Result.{OkIff, result_ok}
 use Rattle.std.proofs.lemmas.Int.{ints}
 use mir.Val.{SFits}

@@ -1,6 +1,6 @@
 -- For `sum` and WrittenRuns: the sum of the parts, one part at a time. The rest from the end of a part on has the same sum, after the sum with that
 -- part. By induction on the bytes passed over. Assumes nothing.
-use Rattle.std.proofs.Common.{◌≡◌, ℕ, zero, suc, ◌+◌, ◌-◌, ◌<◌, ◌≤◌, true, false, Option, Some, None, eqb, ltb, List, [], ◌∷◌, length, drop, sym, refl, ap, ◌∙◌, zero-le, not-suc-le-zero, sub-one, pos_of_ne-zero, arith, length-drop, eqb-true, le-ltb, lt-ltb}
+use Rattle.std.proofs.Common.{◌≡◌, ℕ, zero, suc, ◌+◌, ◌-◌, ◌<◌, ◌≤◌, true, false, Some, None, eqb, ltb, List, [], ◌∷◌, length, drop, sym, refl, ap, ◌∙◌, not-suc-le-zero, sub-one, pos_of_ne-zero, arith, length-drop, eqb-true, le-ltb, lt-ltb}
 use borrow.Author.Tests.{eqb-false}
 use Rattle.base.specs.Choice.{pick}
 use Rattle.go_duration.specs.Fraction.{most}
@@ -33,9 +33,6 @@ front_step d v (suc n) (x ∷ l) h k e = rw (e, sub-one) (ap (pick (ltb most (d 
 pub record Summing (s : List ℕ) (d : ℕ) (rest : List ℕ) : Type 0 where
   pub fits : d ≤ most
   pub ran : sum_from 0 d rest ≡ sum_from 0 0 s
-
-pub summing_first : (s : List ℕ) → Summing s 0 s
-summing_first s = record { fits = zero-le; ran = refl }
 
 module _ (s : List ℕ) (d : ℕ) (rest : List ℕ) (g : Summing s d rest) where
   pub summing_end : true ≡ eqb (length rest) 0 → Some d ≡ sum_from 0 0 s

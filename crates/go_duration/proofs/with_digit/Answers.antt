@@ -1,5 +1,4 @@
 -- `with_digit` is `more` where there is room: a digit's byte is at least that of `0`. Assumes nothing.
-use Rattle.std.proofs.Common.{arith}
 use Rattle.base.proofs.Tests.{digit_range}
 use Rattle.go_duration.proofs.with_digit.Goals as goal
 

@@ -1,9 +1,6 @@
 -- `signed` is `with_sign`: an i64 holds the sum under its sign, but for 2^63 without `-`. Assumes nothing.
-use Rattle.std.proofs.Common.{◌≡◌, ◌∙◌, arith}
+use Rattle.std.proofs.Common.{◌∙◌, arith}
 use Rattle.std.proofs.lemmas.Int.{ints}
-use mir.Val.{to_z}
-use mir.Syntax.{w128}
-use Rattle.go_duration.specs.Parse.{sign_of}
 use Rattle.go_duration.proofs.RunSteps.{signed_is}
 use Rattle.go_duration.proofs.parse.signed.Goals.{then-neg, else-neg}
 use Rattle.go_duration.proofs.parse.signed.Goals as goal

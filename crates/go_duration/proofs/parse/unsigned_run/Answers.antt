@@ -1,7 +1,6 @@
 -- `unsigned_run` is `parse_unsigned`, by the patterns on the way and what `sum` and `signed` answer. Assumes nothing.
-use Rattle.std.proofs.Common.{◌≡◌, ℕ, Option, Some, None, length, sym, ap, ◌∙◌, arith}
+use Rattle.std.proofs.Common.{◌≡◌, ℕ, Option, Some, None, ap, ◌∙◌, arith}
 use Rattle.std.proofs.lemmas.Bool.Decides.{nat_tests}
-use Rattle.base.specs.Bytes.{byte}
 use Rattle.go_duration.specs.Parse.{sum_from, with_sign}
 use Rattle.go_duration.specs.Stages.{parse_unsigned}
 use Rattle.go_duration.proofs.RunSteps.{run_empty, run_zero, run_sum}

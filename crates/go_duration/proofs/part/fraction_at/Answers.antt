@@ -1,11 +1,11 @@
 -- `fraction_at` is `fraction_at`, and ends at `fraction_stop`: the digits after a point are those of the rest. Assumes nothing.
-use Rattle.std.proofs.Common.{◌≡◌, ℕ, ◌+◌, ◌<◌, eqb, length, drop, sym, refl, ap, ◌∙◌, arith, eq-eqb, ne_eqb}
+use Rattle.std.proofs.Common.{◌≡◌, ◌+◌, ◌<◌, eqb, length, drop, sym, refl, ◌∙◌, arith, eq-eqb, ne_eqb}
 use Rattle.base.proofs.Tests.{in_text}
 use Rattle.base.proofs.Reaches.{rest_is, reach_le}
 use Rattle.base.specs.Runs.{reach}
 use Rattle.base.specs.Digits.{in_digits}
 use Rattle.go_duration.specs.Fraction.{no_digits, read_digits}
-use Rattle.go_duration.specs.Digits.{acc_of, count_of}
+use Rattle.go_duration.specs.Digits.{acc_of}
 use Rattle.go_duration.specs.Stages.{fraction_at, fraction_stop}
 use Rattle.go_duration.proofs.FrontDigits.{read_end_at}
 use Rattle.go_duration.proofs.part.fraction_at.Goals.{After-leading_fraction-digits}

@@ -6,7 +6,6 @@ ghost use Rattle.go_duration.specs.Parse.{parse_of};
 ghost use Rattle.utf8.specs.Grammar.{valid_to};
 ghost use Rattle.exports.specs.Durations.{verdict_of, value_after};
 
-use go_duration::parse::Parsed;
 use utf8::check::Verdict;
 
 // The offset of the first byte of the first ill-formed sequence, or the length of a text that has none.
@@ -26,12 +25,9 @@ pub extern "C" fn utf8_check(text: &[u8]) -> u64
 pub extern "C" fn duration_parse(run: &[u8], value: &mut [i64; 1]) -> u8
     ensures { (result ≡ verdict_of (parse_of run.now)) × (value.new ≡ value_after (parse_of run.now) value.old) }
 {
-    let parsed = go_duration::parse::parse(run);
-    match parsed {
-        Parsed::Nanos(z) => {
-            value[0] = z;
-            0
-        }
-        Parsed::Bad => 1,
-    }
+    let Some(nanos) = go_duration::parse::parse(run) else {
+        return 1;
+    };
+    value[0] = nanos;
+    0
 }

@@ -1,11 +1,12 @@
--- For `Fraction::nanos`, PartSteps and WrittenSums: what `read_digits` reads. The kept digits are the first ones of all, and digits are dropped only where a
--- further one would not fit; so the distance of one nanosecond holds of `fraction_nanos`. By induction on the bytes. Assumes nothing.
-use Rattle.std.proofs.Common.{◌≡◌, ℕ, ◌+◌, ◌-◌, ◌*◌, ◌/◌, ◌^◌, ◌<◌, ◌≤◌, Bool, true, false, not, ◌&&◌, ltb, leb, List, [], ◌∷◌, sym, refl, ◌∙◌, inl, inr, add-zero, mul_comm, div-lt_iff_lt-mul, mul-lt-mul_of_pos_right, zero-add, zero-mul, div-one, arith, lit<, lit≤, pow-add, ltb-false, ltb-true, le-ltb, lt-ltb, leb-false, leb-true}
+-- For `Fraction::nanos`, `leading_fraction`, FrontDigits and WrittenSums: what `read_digits` reads. The kept digits are the first ones of all, and digits
+-- are dropped only where a further one would not fit; so the distance of one nanosecond holds of `fraction_nanos`. By induction on the bytes. Assumes
+-- nothing.
+use Rattle.std.proofs.Common.{◌≡◌, ℕ, ◌+◌, ◌-◌, ◌*◌, ◌/◌, ◌^◌, ◌<◌, ◌≤◌, Bool, true, false, not, ◌&&◌, ltb, leb, List, [], ◌∷◌, sym, refl, ◌∙◌, inl, inr, add-zero, mul_comm, pos_of_ne-zero, div-lt_iff_lt-mul, zero-add, zero-mul, div-one, arith, lit<, lit≤, pow-add, ltb-false, ltb-true, lt-ltb, leb-false, leb-true}
 use native.Mathlib.Nat.{zero-div, div-div-eq-div-mul, one-le-pow}
 use Rattle.base.specs.Classes.{is_digit}
 use Rattle.base.proofs.Tests.{and_right, by_cases, true_false, digit_range}
 use Rattle.go_duration.specs.Fraction.{most, nanos_of, more, room, Acc, acc, no_digits, add_digit, read_digits, frac_of, fraction_nanos}
-use Rattle.go_duration.specs.Digits.{Kept, UnitNanos, Proper, all_of, count_of, digit_count, exact_of}
+use Rattle.go_duration.specs.Digits.{Kept, UnitNanos, all_of, count_of, digit_count, exact_of}
 use Rattle.go_duration.specs.Written.{ByOne}
 use Rattle.go_duration.proofs.Distance.{power_split, first_all, distance}
 
@@ -102,12 +103,8 @@ read_count l = count_all l no_digits ∙ zero-add (digit_count l)
 
 -- ---- the distance
 module _ (f k n : ℕ) (o : Bool) (w : ℕ) (t : Taken f k n o w) where
-  proper_of : 0 < f → Proper f k
-  proper_of F = record {
-    some = F;
-    fits = t.fits;
-    digits = rw t.first ((div-lt_iff_lt-mul (one-le-pow (n - k) 10 (lit< tt))).1 (rw (power_split k n t.count) at t.proper));
-  }
+  first_lt : f < 10 ^ k
+  first_lt = rw t.first ((div-lt_iff_lt-mul (one-le-pow (n - k) 10 (lit< tt))).1 (rw (power_split k n t.count) at t.proper))
 
   kept_of : 0 < f → Kept f k w n
   kept_of F = record {
@@ -135,28 +132,18 @@ pub read_distance : (l : List ℕ) (u : ℕ) → UnitNanos u → ByOne (fraction
 unfolding exact_of fraction_nanos
 read_distance l u v = rw (← read_count l) (acc_distance (read_digits l no_digits) (all_of l 0) u (read_took l) v)
 
--- ---- what a fraction as the code has it comes to
-pub proper_read : (l : List ℕ) (f k n : ℕ) (o : Bool) → acc f k n o ≡ read_digits l no_digits → 0 < f → Proper f k
-proper_read l f k n o e F = proper_of f k n o (all_of l 0) (rw (← e) at (read_took l)) F
+-- ---- what a fraction as the code has it comes to: its kept digits, and its nanoseconds
+module _ (f k n : ℕ) (o : Bool) where
+  pub kept_read : (l : List ℕ) → acc f k n o ≡ read_digits l no_digits → (f ≤ most) × (f < 10 ^ k)
+  kept_read l e =
+      let t = rw (← e) at (read_took l) in
+      (t.fits, first_lt f k n o (all_of l 0) t)
 
-module _ (f k n : ℕ) (o : Bool) (u : ℕ) where
-  pub frac_some : 0 < f → nanos_of f k u ≡ frac_of (acc f k n o) u
-  unfolding frac_of
-  frac_some F = rw (lt-ltb 0 f F)
+  module _ (u : ℕ) where
+    pub frac_some : (f ≡ 0 → ⊥) → nanos_of f k u ≡ frac_of (acc f k n o) u
+    unfolding frac_of
+    frac_some z = rw (lt-ltb 0 f (pos_of_ne-zero z))
 
-  pub frac_none : f ≤ 0 → 0 ≡ frac_of (acc f k n o) u
-  unfolding frac_of
-  frac_none F = rw (le-ltb 0 f F)
-
--- ---- and so it is at most the unit, which the sum after it needs
-acc_proper : (a : Acc) (w : ℕ) → Took a w → w < 10 ^ count_of a
-acc_proper (acc f k n o) w t = t.proper
-
-exact_lt : (l : List ℕ) (u : ℕ) → 0 < u → exact_of l u < u
-unfolding exact_of
-exact_lt l u U =
-    let p : all_of l 0 < 10 ^ digit_count l = rw (← read_count l) (acc_proper (read_digits l no_digits) (all_of l 0) (read_took l)) in
-    (div-lt_iff_lt-mul (one-le-pow (digit_count l) 10 (lit< tt))).1 (rw (mul_comm u) (mul-lt-mul_of_pos_right p U))
-
-pub frac_le : (l : List ℕ) (u : ℕ) → UnitNanos u → fraction_nanos l u ≤ u
-frac_le l u v = omega (arith, read_distance l u v, exact_lt l u v.some)
+    pub frac_none : f ≡ 0 → 0 ≡ frac_of (acc f k n o) u
+    unfolding frac_of
+    frac_none e = rw e

@@ -1,6 +1,7 @@
 -- For WrittenSums and the lexer: `parse_of` against the form of durations. It accepts a written duration exactly where its total fits under its sign, and
 -- what it accepts is a written duration. By the sign, and the sums of WrittenRuns. Assumes nothing.
-use Rattle.std.proofs.Common.{◌≡◌, ℕ, ◌+◌, ◌<◌, ◌≤◌, Bool, true, false, eqb, ltb, leb, List, [], ◌∷◌, length, drop, ℤ, sym, refl, ap, ◌∙◌, zero-le, not-suc-le-zero, zero-add, add-one, arith, length-append, length-drop, ltb-false, ltb-true, ne_eqb, eqb-true, le-leb, leb-true}
+use Rattle.std.proofs.Common.{◌≡◌, ℕ, ◌+◌, ◌<◌, ◌≤◌, Bool, true, false, Option, Some, None, eqb, ltb, leb, List, [], ◌∷◌, length, drop, ℤ, sym, refl, ap, ◌∙◌, zero-le, not-suc-le-zero, zero-add, add-one, arith, length-append, length-drop, ltb-false, ltb-true, ne_eqb, eqb-true, le-leb, leb-true}
+use Rattle.std.proofs.lemmas.Option.{none-some}
 use borrow.Author.Tests.{eqb-false, lt-leb}
 use Rattle.base.specs.Choice.{pick}
 use Rattle.base.specs.Bytes.{byte, same_bytes}
@@ -10,9 +11,6 @@ use Rattle.base.proofs.Words.{same_eq}
 use Rattle.go_duration.specs.Fraction.{most}
 use Rattle.go_duration.specs.Parse.{sum_from, sign_of, with_sign, unsigned, parse_of}
 use Rattle.go_duration.specs.Written.{WrittenPart, part_bytes, Parts, none, more, Duration, total_of, Accepted}
-use Rattle.go_duration.specs.declared.parse.Total.{Total}
-use Rattle.go_duration.specs.declared.parse.Total.TheVariants as total
-use Rattle.go_duration.specs.declared.parse.Parsed.TheVariants as parsed
 use Rattle.base.proofs.Fronts.{begins}
 use Rattle.go_duration.proofs.WrittenParts.{unit_byte}
 use Rattle.go_duration.proofs.WrittenCuts.{part_size}
@@ -58,19 +56,16 @@ parts_size (more {p = p} {s = s} i q) h = omega (arith, part_size p i, length-ap
 not_zero : (l : List ℕ) → 1 < length l → same_bytes l (48 ∷ []) ≡ false
 not_zero l h = by_cases (same_bytes l (48 ∷ [])) (λ q. absurd (omega (arith, ap length (same_eq l (48 ∷ []) q)))) (λ q. q)
 
-finish_is : (neg : Bool) (n : ℕ) → with_sign neg (bounded n) ≡ pick (leb (pick neg n (n + 1)) most) (parsed.Nanos (sign_of neg n)) parsed.Bad
+finish_is : (neg : Bool) (n : ℕ) → with_sign neg (bounded n) ≡ pick (leb (pick neg n (n + 1)) most) (Some (sign_of neg n)) None
 unfolding with_sign
 finish_is neg n = go neg (ltb most n) refl
   where
     go : (b r : Bool) → ltb most n ≡ r
-        → with_sign b (pick r total.Bad (total.Sum n)) ≡ pick (leb (pick b n (n + 1)) most) (parsed.Nanos (sign_of b n)) parsed.Bad
+        → with_sign b (pick r None (Some n)) ≡ pick (leb (pick b n (n + 1)) most) (Some (sign_of b n)) None
     go true true q = rw (lt-leb n most (ltb-true most n q))
     go true false q = rw (le-leb n most (ltb-false most n q))
     go false true q = rw (lt-leb (n + 1) most (let h = ltb-true most n q in omega arith))
     go false false q = rw add-one
-
-bad_nanos : {z : ℤ} → parsed.Bad ≡ parsed.Nanos z → ⊥
-bad_nanos e = let n : ◌≡◌ {A = ℕ} 0 1 = cc in omega arith
 
 module _ (neg : Bool) (ps : List WrittenPart) (run : List ℕ) where
   -- what has to be at most 2^63
@@ -78,7 +73,7 @@ module _ (neg : Bool) (ps : List WrittenPart) (run : List ℕ) where
   top = pick neg (total_of ps) (total_of ps + 1)
 
   -- what `parse_of` makes of a written duration
-  parse_is : Duration neg ps run → parse_of run ≡ pick (leb top most) (parsed.Nanos (sign_of neg (total_of ps))) parsed.Bad
+  parse_is : Duration neg ps run → parse_of run ≡ pick (leb top most) (Some (sign_of neg (total_of ps))) None
   unfolding parse_of
   parse_is w =
       let h = parts_size w.parts w.some in
@@ -86,38 +81,38 @@ module _ (neg : Bool) (ps : List WrittenPart) (run : List ℕ) where
       (finish_is neg (total_of ps))
 
   -- completeness: what is written and fits is accepted, with its total under its sign
-  pub complete : Accepted neg ps run → parse_of run ≡ parsed.Nanos (sign_of neg (total_of ps))
+  pub complete : Accepted neg ps run → parse_of run ≡ Some (sign_of neg (total_of ps))
   complete a = rw (parse_is a.form, le-leb top most a.bound)
 
   -- and what does not fit is refused
-  pub refused : Duration neg ps run → (top ≤ most → ⊥) → parse_of run ≡ parsed.Bad
+  pub refused : Duration neg ps run → (top ≤ most → ⊥) → parse_of run ≡ None
   refused w h = rw (parse_is w, lt-leb top most (omega arith))
 
   -- the value of an accepted duration
-  pub value_is : (z : ℤ) → Duration neg ps run → parse_of run ≡ parsed.Nanos z → Accepted neg ps run × (z ≡ sign_of neg (total_of ps))
+  pub value_is : (z : ℤ) → Duration neg ps run → parse_of run ≡ Some z → Accepted neg ps run × (z ≡ sign_of neg (total_of ps))
   value_is z w e =
-      let h = pick_first (leb top most) bad_nanos (sym (parse_is w) ∙ e) in
+      let h = pick_first (leb top most) (none-some z) (sym (parse_is w) ∙ e) in
       let v = h.1 in
       (record { form = w; bound = leb-true top most h.0 }, cc)
 
 -- ---- what is accepted is a written duration
 
 -- a sum, where the run after the sign is no `0` alone
-module _ (run : List ℕ) (z : ℤ) (e : parse_of run ≡ parsed.Nanos z) (n : same_bytes (unsigned run) (48 ∷ []) ≡ false) where
-  finished : (0 < length (unsigned run)) × (with_sign (eqb (byte run 0) 45) (sum_from 0 0 (unsigned run)) ≡ parsed.Nanos z)
+module _ (run : List ℕ) (z : ℤ) (e : parse_of run ≡ Some z) (n : same_bytes (unsigned run) (48 ∷ []) ≡ false) where
+  finished : (0 < length (unsigned run)) × (with_sign (eqb (byte run 0) 45) (sum_from 0 0 (unsigned run)) ≡ Some z)
   unfolding parse_of
   finished =
-      let f = pick_second (eqb (length (unsigned run)) 0) bad_nanos (rw n at e) in
+      let f = pick_second (eqb (length (unsigned run)) 0) (none-some z) (rw n at e) in
       let h = eqb-false (length (unsigned run)) 0 f.0 in
       (omega arith, f.1)
 
-  summed : (d : ℕ) × (sum_from 0 0 (unsigned run) ≡ total.Sum d)
+  summed : (d : ℕ) × (sum_from 0 0 (unsigned run) ≡ Some d)
   unfolding with_sign
   summed = go (sum_from 0 0 (unsigned run)) refl
     where
-      go : (t : Total) → sum_from 0 0 (unsigned run) ≡ t → (d : ℕ) × (sum_from 0 0 (unsigned run) ≡ total.Sum d)
-      go total.Bad q = absurd (bad_nanos (rw q at finished.1))
-      go (total.Sum d) q = (d, q)
+      go : (t : Option ℕ) → sum_from 0 0 (unsigned run) ≡ t → (d : ℕ) × (sum_from 0 0 (unsigned run) ≡ Some d)
+      go None q = absurd (none-some z (rw q at finished.1))
+      go (Some d) q = (d, q)
 
 -- the run is its sign and what follows, if it is no `+`
 signed : (run : List ℕ) → (byte run 0 ≡ 43 → ⊥) → run ≡ pick (eqb (byte run 0) 45) (45 ∷ unsigned run) (unsigned run)
@@ -135,7 +130,7 @@ pub record Form (run : List ℕ) (z : ℤ) : Type 0 where
 
 -- A `+` and `0` alone are outside: the form has neither, and the lexer sends neither (`sent_digit`, `sent_minus`), since a duration's run starts
 -- with a digit, or with `-` and a digit, and a unit follows the digits.
-pub form : (run : List ℕ) (z : ℤ) → parse_of run ≡ parsed.Nanos z → (byte run 0 ≡ 43 → ⊥) → same_bytes (unsigned run) (48 ∷ []) ≡ false → Form run z
+pub form : (run : List ℕ) (z : ℤ) → parse_of run ≡ Some z → (byte run 0 ≡ 43 → ⊥) → same_bytes (unsigned run) (48 ∷ []) ≡ false → Form run z
 form run z e h n =
     let s = summed run z e n in
     let r = sum_parts (unsigned run) 0 s.0 s.1 in

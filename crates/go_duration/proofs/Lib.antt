@@ -5,6 +5,7 @@ mod FloatValues
 mod SmallScales
 mod LargeScales
 mod Distance
+mod Firsts
 mod DigitSteps
 mod DigitsRead
 mod FrontDigits

@@ -1,86 +1,56 @@
--- For `nanos_part`, `next_part` and `sum`: one part by the stages that the code has. What follows the whole number is the fraction that `part_of` speaks
--- of, the rest is `unit_part`, and an accepted part has a byte. By cases on the point and the tests. Assumes nothing.
-use Rattle.std.proofs.Common.{◌≡◌, ℕ, ◌+◌, ◌-◌, ◌*◌, ◌/◌, ◌<◌, ◌≤◌, true, false, ◌&&◌, eqb, ltb, List, [], length, take, drop, sym, refl, ap, ◌∙◌, zero-le, div-lt_iff_lt-mul, mul-le-mul, pos_of_ne-zero, le-div_iff_mul-le, arith, le-ltb, lt-ltb, eq-eqb, ne_eqb, eqb-true}
+-- For `fraction_at`, `nanos_part`, `next_part` and `sum`: one part by the stages that the code has. What follows the whole number is the fraction that
+-- `part_of` speaks of, and an accepted part has a byte. By cases on the point and the tests. Assumes nothing.
+use Rattle.std.proofs.Common.{◌≡◌, ℕ, ◌+◌, ◌-◌, ◌*◌, ◌<◌, ◌≤◌, Option, Some, None, true, false, ◌&&◌, eqb, ltb, leb, List, length, take, drop, sym, refl, ◌∙◌, zero-le, pos_of_ne-zero, arith, le-ltb, lt-ltb, eq-eqb, ne_eqb, eqb-true, leb-true, leb-false}
+use Rattle.std.specs.Bool.{then_some}
+use Rattle.std.specs.Option.{option_map}
+use Rattle.std.proofs.lemmas.Option.{none-some}
 use borrow.Author.Tests.{eqb-false}
+use Rattle.base.specs.Choice.{nonzero}
 use Rattle.base.specs.Bytes.{byte, same_bytes}
 use Rattle.base.specs.Runs.{reach}
 use Rattle.base.specs.Digits.{in_digits}
-use Rattle.base.proofs.Tests.{by_cases, pick_case, in_text, pick_same}
+use Rattle.base.proofs.Tests.{by_cases, pick_case, pick_first, pick_second, in_text, pick_same}
 use Rattle.base.proofs.Reaches.{reach_le, reach_rest}
 use Rattle.go_duration.specs.Fraction.{most, Acc, no_digits, read_digits, frac_of, fraction_nanos}
 use Rattle.go_duration.specs.Digits.{count_of, UnitNanos}
 use Rattle.go_duration.specs.Units.{units, unit_of}
 use Rattle.go_duration.specs.Parse.{in_unit, whole_end, has_point, fraction_start, fraction_end, unit_end, whole_of, part_unit}
 use Rattle.go_duration.specs.Parse.{part_fraction, digitless, part_of}
-use Rattle.go_duration.specs.Stages.{fraction_of, acc_of, ReadOf, fraction_at, nanos_part, unit_part}
-use Rattle.go_duration.specs.declared.fraction.Fraction.{Fraction}
-use Rattle.go_duration.specs.declared.part.After.{After}
+use Rattle.go_duration.specs.Stages.{leading_int, fraction_at, fraction_stop, nanos_part}
 use Rattle.go_duration.specs.declared.part.Part.{Part}
-use Rattle.go_duration.specs.declared.part.Part.TheVariants as part
-use Rattle.go_duration.proofs.DigitSteps.{acc_is}
-use Rattle.go_duration.proofs.DigitsRead.{frac_le}
-use Rattle.go_duration.proofs.FrontDigits.{read_end_at, Told}
+use Rattle.go_duration.specs.declared.part.Whole.{Whole}
+use Rattle.go_duration.proofs.FrontDigits.{read_end_at, Told, number_told}
+use Rattle.go_duration.proofs.UnitLaws.{unit_le}
 
--- ---- `nanos_part`, by the tests that the code makes
-pub product_le : (w u : ℕ) → 0 < u → w ≤ most / u → w * u ≤ most
-product_le w u U h = (le-div_iff_mul-le U).0 h
-
--- so many hours stay below 2^63
-pub small_le : (w u : ℕ) → w ≤ 2097151 → u ≤ 3600000000000 → w * u ≤ most
-small_le w u h k = omega (arith, mul-le-mul h k)
-
--- the fraction is at most the unit, so a sum of it and a product of at most 2^63 fits
-pub digits_le : (d : Fraction) (u : ℕ) → ReadOf d → UnitNanos u → frac_of (acc_of d) u ≤ u
-unfolding fraction_nanos
-digits_le d u r v = rw (acc_is d (read_digits r.text no_digits) r.same) (frac_le r.text u v)
-
-module _ (w : ℕ) (a : Acc) (u e : ℕ) where
-  pub unknown_unit : u ≡ 0 → part.Bad ≡ nanos_part w a u e
+-- ---- `nanos_part`: the last of its tests decides
+module _ (w : ℕ) (a : Acc) (u x : ℕ) (q : x ≡ w * u + frac_of a u) where
+  pub nanos_over : most < x → None ≡ nanos_part w a u
   unfolding nanos_part
-  unknown_unit z = rw (eq-eqb u 0 z)
+  nanos_over l = rw (lt-ltb most (w * u + frac_of a u) (omega arith)) (sym (pick_same (ltb most (w * u)) None))
 
-  pub product_over : (u ≡ 0 → ⊥) → most / u < w → part.Bad ≡ nanos_part w a u e
+  pub nanos_sum : then_some (leb x most) x ≡ nanos_part w a u
   unfolding nanos_part
-  product_over z h = rw (ne_eqb u 0 z, lt-ltb most (w * u) ((div-lt_iff_lt-mul (pos_of_ne-zero z)).0 h))
+  nanos_sum =
+      by_cases (leb x most)
+      (λ e. let l = leb-true x most e in
+      rw (e, ← q, le-ltb most (w * u) (omega arith), le-ltb most x l))
+      (λ e. rw e (nanos_over (leb-false x most e)))
 
-  module _ (z : u ≡ 0 → ⊥) (p : w * u ≤ most) (x : ℕ) (q : x ≡ frac_of a u) where
-    pub sum_over : most < w * u + x → part.Bad ≡ nanos_part w a u e
-    unfolding nanos_part
-    sum_over l = rw (← q, ne_eqb u 0 z, le-ltb most (w * u) p, lt-ltb most (w * u + x) l)
+-- ---- a number that is none where it is 0
+nonzero_none : (n : ℕ) → None ≡ nonzero n → n ≡ 0
+nonzero_none n e = eqb-true n 0 (pick_first (eqb n 0) (λ z. none-some n (sym z)) (sym e)).0
 
-    pub sum_value : w * u + x ≤ most → part.Value (w * u + x) e ≡ nanos_part w a u e
-    unfolding nanos_part
-    sum_value l = rw (← q, ne_eqb u 0 z, le-ltb most (w * u) p, le-ltb most (w * u + x) l)
+nonzero_some : (u n : ℕ) → Some u ≡ nonzero n → (u ≡ n) × (0 < u)
+nonzero_some u n e =
+    let p = pick_second (eqb n 0) (none-some u) (sym e) in
+    let f = p.1 in
+    let q : u ≡ n = cc in
+    (q, rw q (pos_of_ne-zero (eqb-false n 0 p.0)))
 
 module _ (s : List ℕ) where
-  -- the unit that stands at the fraction's end
-  size : ℕ
-  size = reach in_unit (drop (fraction_end s) s) 0
-
-  unit_end_lem : unit_end s ≡ fraction_end s + size
-  unfolding unit_end size
-  unit_end_lem = reach_rest in_unit s (fraction_end s)
-
-  unit_is : part_unit s ≡ unit_of (take size (drop (fraction_end s) s))
-  unfolding part_unit
-  unit_is =
-      let e = unit_end_lem in
-      let n : unit_end s - fraction_end s ≡ size = omega arith in
-      rw n
-
-  pub part_over : most < whole_of s → part.Bad ≡ part_of s
+  pub part_over : most < whole_of s → None ≡ part_of s
   unfolding part_of
-  part_over h = rw (lt-ltb most (whole_of s) h) (sym (pick_same (digitless s) part.Bad))
-
-  part_none : digitless s ≡ true → part.Bad ≡ part_of s
-  unfolding part_of
-  part_none e = rw e
-
-  -- the part with digits, whose fraction is a
-  part_is : (a : Acc) → digitless s ≡ false → whole_of s ≤ most → part_fraction s ≡ frac_of a (part_unit s)
-      → unit_part (whole_of s) a (fraction_end s) s ≡ part_of s
-  unfolding part_of unit_part nanos_part size
-  part_is a d h e = rw (d, le-ltb most (whole_of s) h, e, unit_end_lem, unit_is)
+  part_over h = rw (lt-ltb most (whole_of s) h) (sym (pick_same (digitless s) None))
 
   -- ---- the length
   point_in : has_point s ≡ true → whole_end s < length s
@@ -107,95 +77,101 @@ module _ (s : List ℕ) where
       rw n
 
   -- ---- what follows the whole number
-  record Follows (r : After) : Type 0 where
-    pub ends : r.«end» ≡ fraction_end s
-    pub none : digitless s ≡ eqb (whole_end s) 0 && eqb r.digits.count 0
-    pub nanos : part_fraction s ≡ frac_of (acc_of r.digits) (part_unit s)
-    pub read : ReadOf r.digits
+  stop_is : fraction_stop (whole_end s) s ≡ fraction_end s
+  unfolding fraction_stop fraction_end has_point
+  stop_is = refl
 
-  plain : has_point s ≡ false → Follows (record { digits = fraction_of no_digits; «end» = whole_end s })
-  unfolding fraction_end digitless fraction_start part_fraction frac_of read_digits
-  plain e = record {
-    ends = rw e;
-    none = rw (e, eq-eqb (whole_end s) (whole_end s) refl);
-    nanos = rw e;
-    read = record { text = []; same = refl };
-  }
-
-  digits : Acc
-  digits = read_digits (drop (whole_end s + 1) s) no_digits
-
-  point_end : has_point s ≡ true → fraction_end s ≡ whole_end s + 1 + count_of digits
-  unfolding fraction_end digits
-  point_end e = rw e (read_end_at s (whole_end s + 1))
-
-  point_none : has_point s ≡ true → digitless s ≡ eqb (whole_end s) 0 && eqb (count_of digits) 0
-  unfolding digitless fraction_start
-  point_none e = rw (e, point_end e, more_eqb (whole_end s + 1) (count_of digits))
+  none_is : digitless s ≡ eqb (whole_end s) 0 && eqb (count_of (fraction_at (whole_end s) s)) 0
+  unfolding digitless fraction_start fraction_end fraction_at has_point read_digits
+  none_is =
+      by_cases (eqb (byte s (whole_end s)) 46)
+      (λ e. rw (e, read_end_at s (whole_end s + 1), more_eqb (whole_end s + 1) (count_of (read_digits (drop (whole_end s + 1) s) no_digits))))
+      (λ e. rw (e, eq-eqb (whole_end s) (whole_end s) refl))
     where
       more_eqb : (m c : ℕ) → eqb (m + c) m ≡ eqb c 0
       more_eqb m c =
           by_cases (eqb c 0) (λ q. let z = eqb-true c 0 q in rw (q, eq-eqb (m + c) m (omega arith)))
           (λ q. let z = eqb-false c 0 q in rw (q, ne_eqb (m + c) m (omega arith)))
 
-  point_nanos : has_point s ≡ true → part_fraction s ≡ frac_of digits (part_unit s)
-  unfolding part_fraction fraction_nanos digits
-  point_nanos e = rw e
+  nanos_is : part_fraction s ≡ frac_of (fraction_at (whole_end s) s) (part_unit s)
+  unfolding part_fraction fraction_nanos fraction_at has_point frac_of
+  nanos_is = by_cases (eqb (byte s (whole_end s)) 46) (λ e. rw e) (λ e. rw e)
 
-  pointed : has_point s ≡ true → Follows (record { digits = fraction_of digits; «end» = whole_end s + 1 + count_of digits })
-  unfolding digits
-  pointed e =
-      let a = acc_is (fraction_of digits) digits refl in
-      record {
-        ends = sym (point_end e);
-        none = rw (← ap count_of a) at (point_none e);
-        nanos = rw (← a) at (point_nanos e);
-        read = record { text = drop (whole_end s + 1) s; same = refl };
-      }
+  -- ---- the part, by the number and the fraction that were read, and the unit behind them
+  module _ (w : Whole) (h : Some w ≡ leading_int s) (a : Acc) (p : a ≡ fraction_at w.used s) (e : ℕ) (q : e ≡ fraction_stop w.used s) where
+    t : Told s w.value w.used
+    t = number_told s w h
 
-  follows : Follows (fraction_at (whole_end s) s)
-  unfolding fraction_at has_point digits
-  follows = pick_case Follows (eqb (byte s (whole_end s)) 46) (λ e. pointed e) (λ e. plain e)
+    end_is : e ≡ fraction_end s
+    end_is = q ∙ rw t.used stop_is
 
-  -- ---- the part, by the number and the fraction that were read
-  module _ (v n : ℕ) (t : Told s v n) (r : After) (e : r ≡ fraction_at n s) where
-    rest : Follows r
-    rest = rw (e, t.used) follows
+    pub next_in : e ≤ length s
+    next_in = rw end_is fraction_le
 
-    pub next_read : ReadOf r.digits
-    next_read = rest.read
+    pub next_none : w.used ≡ 0 → count_of a ≡ 0 → None ≡ part_of s
+    unfolding part_of
+    next_none z c =
+        let d : digitless s ≡ true = none_is ∙ rw (← t.used, ← p, z, c) in
+        rw d
 
-    pub next_in : r.«end» ≤ length s
-    next_in = rw rest.ends fraction_le
+    module _ (d : w.used ≡ 0 → count_of a ≡ 0 → ⊥) (z : ℕ) (y : z ≡ reach in_unit (drop e s) 0) where
+      some_digit : digitless s ≡ false
+      some_digit = none_is ∙ rw (← t.used, ← p) (both w.used (count_of a) d)
+        where
+          both : (x y : ℕ) → (x ≡ 0 → y ≡ 0 → ⊥) → eqb x 0 && eqb y 0 ≡ false
+          both x y h =
+              by_cases (eqb x 0) (λ i. rw i (ne_eqb y 0 (h (eqb-true x 0 i)))) (λ i. rw i)
 
-    none_is : digitless s ≡ eqb n 0 && eqb r.digits.count 0
-    none_is = rw t.used rest.none
+      unit_end_is : unit_end s ≡ e + z
+      unfolding unit_end
+      unit_end_is = rw (← end_is, y) (reach_rest in_unit s e)
 
-    pub next_none : eqb n 0 && eqb r.digits.count 0 ≡ true → part.Bad ≡ part_of s
-    next_none q = part_none (none_is ∙ q)
+      unit_is : part_unit s ≡ unit_of (take z (drop e s))
+      unfolding part_unit
+      unit_is =
+          let n : e + z - e ≡ z = omega arith in
+          rw (unit_end_is, ← end_is, n)
 
-    pub next_is : eqb n 0 && eqb r.digits.count 0 ≡ false → (p : Part) → p ≡ unit_part v (acc_of r.digits) r.«end» s → p ≡ part_of s
-    next_is q p u =
-        (rw (t.value, rest.ends) at u) ∙ part_is (acc_of r.digits) (none_is ∙ q) (rw t.value at t.fits) rest.nanos
+      pub next_unit : None ≡ nonzero (unit_of (take z (drop e s))) → None ≡ part_of s
+      unfolding part_of
+      next_unit m =
+          let u : part_unit s ≡ 0 = unit_is ∙ (nonzero_none _ m) in
+          rw (some_digit, ← t.value, le-ltb most w.value t.fits, u)
+
+      module _ (u : ℕ) (m : Some u ≡ nonzero (unit_of (take z (drop e s)))) where
+        known : (part_unit s ≡ u) × (0 < u)
+        known = let k = nonzero_some u _ m in (unit_is ∙ sym k.0, k.1)
+
+        pub next_known : UnitNanos u
+        next_known = record { some = known.1; top = rw (← known.0, unit_is) (unit_le _) }
+
+        -- the nanoseconds decide
+        pub next_nanos : (r : Option ℕ) → r ≡ nanos_part w.value a u → part_of s ≡ option_map (λ x. record { nanos = x; used = e + z }) r
+        unfolding part_of nanos_part
+        next_nanos r k =
+            rw (k, some_digit, ← t.value, le-ltb most w.value t.fits, known.0, ne_eqb u 0 (λ o. let l = known.1 in omega arith))
+            (rw (nanos_is, ← t.used, ← p, known.0, unit_end_is)
+            (by_cases (ltb most (w.value * u)) (λ o. rw o)
+            (λ o. by_cases (ltb most (w.value * u + frac_of a u)) (λ i. rw (o, i)) (λ i. rw (o, i)))))
 
   -- an accepted part has a byte and lies in the text
   pub record Used (n : ℕ) : Type 0 where
     pub some : 0 < n
     pub ends : n ≤ length s
 
-  pub part_used : (v n : ℕ) → part.Value v n ≡ part_of s → Used n
+  pub part_used : (p : Part) → Some p ≡ part_of s → Used p.used
   unfolding part_of
-  part_used v n =
+  part_used p =
       pick_case P (digitless s) (λ _. bad)
       (λ _. pick_case P (ltb most (whole_of s)) (λ _. bad)
       (λ _. pick_case P (eqb (part_unit s) 0) (λ _. bad)
       (λ z. pick_case P (ltb most (whole_of s * part_unit s)) (λ _. bad)
       (λ _. pick_case P (ltb most (whole_of s * part_unit s + part_fraction s)) (λ _. bad)
-      (λ _ e. let q : n ≡ unit_end s = cc in
+      (λ _ e. let q : p.used ≡ unit_end s = cc in
       record { some = rw q (pos_of_ne-zero (λ y. eqb-false (part_unit s) 0 z (no_size y))); ends = rw q unit_end_le })))))
     where
-      P : Part → Type 0
-      P x = part.Value v n ≡ x → Used n
+      P : Option Part → Type 0
+      P x = Some p ≡ x → Used p.used
 
-      bad : part.Value v n ≡ part.Bad → Used n
-      bad e = let z : ◌≡◌ {A = ℕ} 0 1 = cc in absurd (omega arith)
+      bad : Some p ≡ None → Used p.used
+      bad e = absurd (none-some p (sym e))

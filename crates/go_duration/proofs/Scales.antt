@@ -1,6 +1,6 @@
 -- For `scale_of`, `leading_fraction` and Distance: the scale step by step, what stays true of it once it holds, and that at each k below 36 it is near
 -- 10 ^ k, at least 1 and at most 2 ^ 120, by one computed test. Assumes nothing.
-use Rattle.std.proofs.Common.{◌≡◌, ℕ, zero, suc, ◌+◌, ◌*◌, ◌^◌, ◌<◌, ◌≤◌, Bool, false, ◌&&◌, T, leb, sym, refl, ◌∙◌, inl, inr, le_of_suc-le-suc, eq-or-lt_of_le, add-one, arith, leb→le}
+use Rattle.std.proofs.Common.{◌≡◌, ℕ, zero, suc, ◌+◌, ◌*◌, ◌^◌, ◌<◌, ◌≤◌, Bool, false, ◌&&◌, T, leb, sym, refl, ap, ◌∙◌, inl, inr, le_of_suc-le-suc, eq-or-lt_of_le, add-one, arith, leb→le}
 use lib.Ieee.{Float, inf, binary64, mul, of_bits}
 use lib.Ieee.Positive.{num, den, positive}
 use Rattle.base.proofs.Tables.{all, all_below}
@@ -33,8 +33,12 @@ infinite : (k : ℕ) → 309 ≤ k → scale_of k ≡ inf false
 unfolding mul
 infinite = scale_from (λ x. x ≡ inf false) 309 infinite_309 (λ x e. rw e)
 
-pub scale_stays : (i k : ℕ) → i ≡ 309 → i ≤ k → scale_of i ≡ scale_of k
-scale_stays i k e h = infinite i (omega arith) ∙ sym (infinite k (omega arith))
+pub scale_stays : (i k : ℕ) → i ≤ k → (i < k → 309 ≤ i) → scale_of i ≡ scale_of k
+scale_stays i k h f =
+    elim (eq-or-lt_of_le h) [
+      | inl e ↦ ap scale_of e
+      | inr m ↦ infinite i (f m) ∙ sym (infinite k (omega (arith, f m)))
+    ]
 
 -- ---- below 36
 abbrev ok : Float → ℕ → Bool

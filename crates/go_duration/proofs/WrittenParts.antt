@@ -1,6 +1,7 @@
 -- For WrittenCuts and WrittenRuns: one written part against `part_of`. Where the part's pieces are as long as can be, `part_of` finds their ends, and of its
 -- tests on the number the last one decides. By cases on the point. Assumes nothing.
-use Rattle.std.proofs.Common.{◌≡◌, ℕ, zero, suc, ◌+◌, ◌-◌, ◌*◌, ◌<◌, Bool, true, false, not, ◌&&◌, ◌||◌, eqb, ltb, List, [], ◌∷◌, ◌++◌, length, drop, sym, refl, ◌∙◌, append_assoc, add-zero, zero-add, le-mul_of_pos_right, arith, length-append, get_or-append-add, ltb-false, le-ltb, eq-eqb, ne_eqb}
+use Rattle.std.proofs.Common.{◌≡◌, ℕ, zero, suc, ◌+◌, ◌-◌, ◌*◌, ◌<◌, Bool, true, false, not, Option, Some, None, ◌&&◌, ◌||◌, eqb, ltb, List, [], ◌∷◌, ◌++◌, length, drop, sym, refl, ◌∙◌, append_assoc, add-zero, zero-add, le-mul_of_pos_right, arith, length-append, get_or-append-add, ltb-false, le-ltb, eq-eqb, ne_eqb}
+use Rattle.std.proofs.lemmas.Option.{none-some}
 use borrow.Author.Tests.{eqb-false}
 use lib.Dec.{eqb-suc-zero}
 use lib.Seq.{take-append_seam, drop-append_seam, drop-append-add}
@@ -16,7 +17,6 @@ use Rattle.go_duration.specs.Parse.{whole_end, has_point, fraction_start, fracti
 use Rattle.go_duration.specs.Parse.{digitless, part_of}
 use Rattle.go_duration.specs.Written.{WrittenPart, part_bytes, part_nanos}
 use Rattle.go_duration.specs.declared.part.Part.{Part}
-use Rattle.go_duration.specs.declared.part.Part.TheVariants as part
 use Rattle.base.proofs.Fronts.{begins, begins_is, reach_front}
 
 abbrev pub is_point : ℕ → Bool
@@ -182,36 +182,36 @@ capped v u x bad good h =
     e : eqb u 0 ≡ false
     e = ne_eqb u 0 (omega arith)
 
-bad_value : {v n : ℕ} → part.Bad ≡ part.Value v n → ⊥
-bad_value e = let z : ◌≡◌ {A = ℕ} 0 1 = cc in omega arith
-
 module _ (p : WrittenPart) (s : List ℕ) (c : Cut p s) where
-  abbrev tests : Part
-  tests =
-      pick (ltb most (value_of p.whole)) part.Bad
-      (pick (eqb (unit_of p.unit) 0) part.Bad
-      (pick (ltb most (value_of p.whole * unit_of p.unit)) part.Bad
-      (pick (ltb most (part_nanos p)) part.Bad (part.Value (part_nanos p) (length (part_bytes p))))))
+  -- its nanoseconds and its length
+  abbrev value : Part
+  value = record { nanos = part_nanos p; used = length (part_bytes p) }
 
-  judged : part_of (part_bytes p ++ s) ≡ pick (eqb (length p.whole + length p.fraction) 0) part.Bad tests
+  abbrev tests : Option Part
+  tests =
+      pick (ltb most (value_of p.whole)) None
+      (pick (eqb (unit_of p.unit) 0) None
+      (pick (ltb most (value_of p.whole * unit_of p.unit)) None
+      (pick (ltb most (part_nanos p)) None (Some value))))
+
+  judged : part_of (part_bytes p ++ s) ≡ pick (eqb (length p.whole + length p.fraction) 0) None tests
   unfolding part_of part_nanos
   judged = let r = reads p s c in rw (r.digits, r.number, r.nanos, r.extra, r.end)
 
   -- with a digit and a known unit the nanoseconds decide
   pub part_is : 0 < length p.whole + length p.fraction → 0 < unit_of p.unit
-      → part_of (part_bytes p ++ s) ≡ pick (ltb most (part_nanos p)) part.Bad (part.Value (part_nanos p) (length (part_bytes p)))
+      → part_of (part_bytes p ++ s) ≡ pick (ltb most (part_nanos p)) None (Some value)
   unfolding part_nanos
   part_is d k =
       rw (judged, ne_eqb (length p.whole + length p.fraction) 0 (omega arith))
-      (capped (value_of p.whole) (unit_of p.unit) (fraction_nanos p.fraction (unit_of p.unit)) part.Bad
-      (part.Value (part_nanos p) (length (part_bytes p))) k)
+      (capped (value_of p.whole) (unit_of p.unit) (fraction_nanos p.fraction (unit_of p.unit)) None (Some value) k)
 
   -- and a part with a value has both
-  pub part_good : (v used : ℕ) → part_of (part_bytes p ++ s) ≡ part.Value v used → (0 < length p.whole + length p.fraction) × (0 < unit_of p.unit)
-  part_good v used e =
-      let a = pick_second (eqb (length p.whole + length p.fraction) 0) bad_value (sym judged ∙ e) in
-      let b = pick_second (ltb most (value_of p.whole)) bad_value a.1 in
-      let g = pick_second (eqb (unit_of p.unit) 0) bad_value b.1 in
+  pub part_good : (v : Part) → part_of (part_bytes p ++ s) ≡ Some v → (0 < length p.whole + length p.fraction) × (0 < unit_of p.unit)
+  part_good v e =
+      let a = pick_second (eqb (length p.whole + length p.fraction) 0) (none-some v) (sym judged ∙ e) in
+      let b = pick_second (ltb most (value_of p.whole)) (none-some v) a.1 in
+      let g = pick_second (eqb (unit_of p.unit) 0) (none-some v) b.1 in
       (nonzero a.0, nonzero g.0)
     where
       nonzero : {n : ℕ} → eqb n 0 ≡ false → 0 < n

@@ -1,6 +1,6 @@
 -- For the lexer (demand 3's words of a Duration): the nanoseconds of an accepted run are the sum of its parts as written, each written fraction within one
 -- nanosecond. From the distance of the floats. Assumes nothing.
-use Rattle.std.proofs.Common.{◌≡◌, ℕ, Bool, true, false, List, [], ◌∷◌, length, ℤ, refl, ◌∙◌, append-nil, arith}
+use Rattle.std.proofs.Common.{◌≡◌, ℕ, Bool, true, false, Some, List, [], ◌∷◌, length, ℤ, refl, ◌∙◌, append-nil, arith}
 use lib.Seq.{take-length}
 use Rattle.base.specs.Bytes.{each, byte, same_bytes}
 use Rattle.base.specs.Classes.{is_digit}
@@ -12,7 +12,6 @@ use Rattle.go_duration.specs.Digits.{all_of, digit_count, exact_of}
 use Rattle.go_duration.specs.Units.{unit_of}
 use Rattle.go_duration.specs.Parse.{sign_of, unsigned, parse_of}
 use Rattle.go_duration.specs.Written.{WrittenPart, IsPart, Parts, Duration, exact_fraction, PartNanos, Sums, SumOfParts, part_nanos, total_of}
-use Rattle.go_duration.specs.declared.parse.Parsed.TheVariants as parsed
 use Rattle.go_duration.proofs.DigitsRead.{read_distance}
 use Rattle.go_duration.proofs.FrontDigits.{all_value, count_run}
 use Rattle.go_duration.proofs.UnitLaws.{unit_le}
@@ -53,12 +52,12 @@ total_sums Parts.none = Sums.none
 total_sums (Parts.more {p = p} i q) = Sums.more (part_nanos_lem p i) (total_sums q)
 
 -- ---- demand 3 of an accepted run
-pub sum_as_written : (neg : Bool) (ps : List WrittenPart) (run : List ℕ) (z : ℤ) → parse_of run ≡ parsed.Nanos z → Duration neg ps run
+pub sum_as_written : (neg : Bool) (ps : List WrittenPart) (run : List ℕ) (z : ℤ) → parse_of run ≡ Some z → Duration neg ps run
     → (n : ℕ) × Sums ps n × (z ≡ sign_of neg n)
 sum_as_written neg ps run z e w = (total_of ps, total_sums w.parts, (value_is neg ps run z w e).1)
 
 -- A `+` and `0` alone are outside, as in `form`: the form has neither, and the lexer sends neither.
-pub sum_of_parts : (run : List ℕ) (z : ℤ) → parse_of run ≡ parsed.Nanos z → (byte run 0 ≡ 43 → ⊥) → same_bytes (unsigned run) (48 ∷ []) ≡ false
+pub sum_of_parts : (run : List ℕ) (z : ℤ) → parse_of run ≡ Some z → (byte run 0 ≡ 43 → ⊥) → same_bytes (unsigned run) (48 ∷ []) ≡ false
     → SumOfParts run z
 sum_of_parts run z e h n =
     let f = form run z e h n in

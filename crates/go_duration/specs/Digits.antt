@@ -1,6 +1,7 @@
 -- Helper definitions, for proofs and inner contracts alone: the digits of a fraction, said for the proofs of distance, what is kept of them and what all
 -- of them write.
-use Rattle.std.specs.Prelude.{◌≡◌, ℕ, ◌+◌, ◌-◌, ◌*◌, ◌/◌, ◌^◌, ◌<◌, ◌≤◌, ◌⊎◌, List, [], ◌∷◌}
+use Rattle.std.specs.Prelude.{◌≡◌, ℕ, ◌+◌, ◌-◌, ◌*◌, ◌/◌, ◌^◌, ◌<◌, ◌≤◌, ◌⊎◌, Bool, List, [], ◌∷◌, ◌==◌, nat_lt}
+use Prim.Native.Char.{code}
 use Rattle.base.specs.Choice.{pick}
 use Rattle.base.specs.Classes.{is_digit}
 use Rattle.go_duration.specs.Fraction.{most, more, Acc, acc}
@@ -24,6 +25,14 @@ pub record Kept (f k w n : ℕ) : Type 0 where
   pub proper : w < 10 ^ n
   pub first : f ≡ w / 10 ^ (n - k)
   pub full : (k ≡ n) ⊎ (most < f * 10 + 9)
+
+-- a zero, as the test of a run
+abbrev pub is_zero : ℕ → ℕ → Bool
+is_zero a b = a == code "0"
+
+-- the digits of a `Fraction` (src/fraction.rt): some are dropped where fewer are kept than there are
+abbrev pub acc_of : ℕ → ℕ → ℕ → Acc
+acc_of f k n = acc f k n (nat_lt k n)
 
 -- how many digits were read
 abbrev pub count_of : Acc → ℕ

@@ -1,5 +1,5 @@
 -- `parse` of go_duration.rs on a list of bytes, with document 01's refusals: "number at most 2^63, unit, repeated".
-use Rattle.std.specs.Prelude.{ℕ, zero, suc, ◌+◌, ◌-◌, ◌*◌, Bool, not, ◌&&◌, ◌||◌, List, [], ◌∷◌, length, take, drop, ℤ, pos, ◌-ℤ◌, ◌==◌, nat_lt}
+use Rattle.std.specs.Prelude.{ℕ, zero, suc, ◌+◌, ◌-◌, ◌*◌, Bool, not, ◌&&◌, ◌||◌, Option, Some, None, List, [], ◌∷◌, length, take, drop, ℤ, pos, ◌-ℤ◌, ◌==◌, nat_lt}
 use Prim.Native.Char.{code}
 use Rattle.base.specs.Characters.{ascii}
 use Rattle.base.specs.Choice.{pick}
@@ -10,14 +10,8 @@ use Rattle.base.specs.Digits.{in_digits, value_of}
 use Rattle.go_duration.specs.Fraction.{most, fraction_nanos}
 use Rattle.go_duration.specs.Units.{unit_of}
 use Rattle.go_duration.specs.declared.part.Part.{Part}
-use Rattle.go_duration.specs.declared.part.Part.TheVariants as part
-use Rattle.go_duration.specs.declared.parse.Total.{Total}
-use Rattle.go_duration.specs.declared.parse.Total.TheVariants as total
-use Rattle.go_duration.specs.declared.parse.Parsed.{Parsed}
-use Rattle.go_duration.specs.declared.parse.Parsed.TheVariants as parsed
 
--- Types of the code (src/part.rt, src/parse.rt). `Part`, one part: `Value nanos used`, its nanoseconds and how many bytes it has, or `Bad`. `Total`,
--- the sum of the parts: `Sum nanos` or `Bad`. `Parsed`, what a run is as a duration: `Nanos nanos` or `Bad`.
+-- `Part`, a type of the code (src/part.rt): one part, its nanoseconds, `nanos`, and how many bytes it has, `used`.
 
 -- ---- one part, at the front of a list
 
@@ -62,25 +56,25 @@ unfoldable pub digitless : List ℕ → Bool
 digitless s = whole_end s == 0 && fraction_end s == fraction_start s
 
 -- the part's nanoseconds and its length; "Any product or sum above 2^63 is refused"
-unfoldable pub part_of : List ℕ → Part
+unfoldable pub part_of : List ℕ → Option Part
 part_of s =
-    pick (digitless s) part.Bad
-    (pick (nat_lt most (whole_of s)) part.Bad
-    (pick (part_unit s == 0) part.Bad
-    (pick (nat_lt most (whole_of s * part_unit s)) part.Bad
-    (pick (nat_lt most (whole_of s * part_unit s + part_fraction s)) part.Bad
-    (part.Value (whole_of s * part_unit s + part_fraction s) (unit_end s))))))
+    pick (digitless s) None
+    (pick (nat_lt most (whole_of s)) None
+    (pick (part_unit s == 0) None
+    (pick (nat_lt most (whole_of s * part_unit s)) None
+    (pick (nat_lt most (whole_of s * part_unit s + part_fraction s)) None
+    (Some (record { nanos = whole_of s * part_unit s + part_fraction s; used = unit_end s }))))))
 
 -- ---- the parts, repeated
 
 -- the sum d with one part more, and then what f makes of the bytes of the part that are left: "Any product or sum above 2^63 is refused"
-abbrev pub add_part : Part → ℕ → (ℕ → ℕ → Total) → Total
-add_part part.Bad d f = total.Bad
-add_part (part.Value v used) d f = pick (nat_lt most (d + v)) total.Bad (f (used - 1) (d + v))
+abbrev pub add_part : Option Part → ℕ → (ℕ → ℕ → Option ℕ) → Option ℕ
+add_part None d f = None
+add_part (Some p) d f = pick (nat_lt most (d + p.nanos)) None (f (p.used - 1) (d + p.nanos))
 
 -- the sum of the parts, d being that of those before; k bytes at the front belong to a part that is counted already
-unfoldable pub sum_from : ℕ → ℕ → List ℕ → Total
-sum_from k d [] = total.Sum d
+unfoldable pub sum_from : ℕ → ℕ → List ℕ → Option ℕ
+sum_from k d [] = Some d
 sum_from (suc k) d (x ∷ s) = sum_from k d s
 sum_from zero d (x ∷ s) = add_part (part_of (x ∷ s)) d (λ k e. sum_from k e s)
 
@@ -91,16 +85,16 @@ abbrev pub sign_of : Bool → ℕ → ℤ
 sign_of neg d = pick neg (pos 0 -ℤ pos d) (pos d)
 
 -- the finished sum under its sign, where a signed 64-bit number holds it
-unfoldable pub with_sign : Bool → Total → Parsed
-with_sign neg total.Bad = parsed.Bad
-with_sign neg (total.Sum d) = pick (neg || nat_lt d most) (parsed.Nanos (sign_of neg d)) parsed.Bad
+unfoldable pub with_sign : Bool → Option ℕ → Option ℤ
+with_sign neg None = None
+with_sign neg (Some d) = pick (neg || nat_lt d most) (Some (sign_of neg d)) None
 
 -- the run after its sign
 unfoldable pub unsigned : List ℕ → List ℕ
 unsigned run = pick (byte run 0 == (code "-") || byte run 0 == (code "+")) (drop 1 run) run
 
 -- "`0` alone is zero"; nothing is no duration
-unfoldable pub parse_of : List ℕ → Parsed
+unfoldable pub parse_of : List ℕ → Option ℤ
 parse_of run =
-    pick (same_bytes (unsigned run) (ascii "0")) (parsed.Nanos (pos 0))
-    (pick (length (unsigned run) == 0) parsed.Bad (with_sign (byte run 0 == (code "-")) (sum_from 0 0 (unsigned run))))
+    pick (same_bytes (unsigned run) (ascii "0")) (Some (pos 0))
+    (pick (length (unsigned run) == 0) None (with_sign (byte run 0 == (code "-")) (sum_from 0 0 (unsigned run))))

@@ -2,92 +2,55 @@
 ghost use Rattle.std.specs.Prelude.{◌≡◌, ◌≤◌};
 ghost use Rattle.go_duration.specs.Fraction.{most};
 ghost use Rattle.go_duration.specs.Parse.{sum_from, with_sign, parse_of};
-ghost use Rattle.go_duration.specs.Stages.{sign_size, parse_unsigned};
+ghost use Rattle.go_duration.specs.Stages.{parse_unsigned};
 
 use crate::MOST;
-use crate::part::Part;
+use crate::part::{Part, next_part};
 
-// The sum of the parts.
-#[derive(Clone, Copy)]
-pub enum Total {
-    Sum(u64),
-    Bad,
-}
-
-// What a run of bytes is as a duration.
-#[derive(Clone, Copy)]
-pub enum Parsed {
-    Nanos(i64),
-    Bad,
-}
-
-// The sum of the parts of `s`: a sum above 2^63 is refused before it is made, since it could wrap.
-pub fn sum(s: &[u8]) -> Total
+// The sum of the parts of `s`. A sum above 2^63 is refused before it is made, since it could wrap.
+pub fn sum(s: &[u8]) -> Option<u64>
     ensures { result ≡ sum_from 0 0 s.now }
 {
-    let mut d: u64 = 0;
-    let mut i = 0;
-    while i < s.len() {
-        let next = crate::part::next_part(&s[i..]);
-        let Part::Value { nanos, used } = next else {
-            return Total::Bad;
-        };
+    let mut d = 0;
+    let mut rest = s;
+    while !rest.is_empty() {
+        let Part { nanos, used } = next_part(rest)?;
         if nanos > MOST - d {
-            return Total::Bad;
+            return None;
         }
         d += nanos;
-        i += used;
+        rest = &rest[used..];
     }
-    Total::Sum(d)
+    Some(d)
 }
 
-// The sign is put on the finished sum. 2^63 fits only under `-`; one comes off before the cast.
-fn signed(d: u64, neg: bool) -> Parsed
+// The finished sum under its sign, where an i64 holds it: 2^63 only under `-`.
+fn signed(d: u64, neg: bool) -> Option<i64>
     requires { d ≤ most }
-    ensures { result ≡ with_sign neg (Total.Sum d) }
+    ensures { result ≡ with_sign neg (Some d) }
 {
-    if neg {
-        if d == 0 {
-            return Parsed::Nanos(0);
-        }
-        return Parsed::Nanos(-1 - ((d - 1) as i64));
-    }
-    if d >= MOST {
-        return Parsed::Bad;
-    }
-    Parsed::Nanos(d as i64)
+    let d = i128::from(d);
+    i64::try_from(if neg { -d } else { d }).ok()
 }
 
 // What `s`, the run after its sign, is under that sign.
-fn unsigned_run(s: &[u8], neg: bool) -> Parsed
+fn unsigned_run(s: &[u8], neg: bool) -> Option<i64>
     ensures { result ≡ parse_unsigned neg s.now }
 {
-    let n = s.len();
-    if n == 0 {
-        return Parsed::Bad;
+    match s {
+        [] => None,
+        b"0" => Some(0),
+        _ => signed(sum(s)?, neg),
     }
-    if (n == 1) & (base::peek(s, 0) == b'0') {
-        return Parsed::Nanos(0);
-    }
-    let total = sum(s);
-    let Total::Sum(d) = total else {
-        return Parsed::Bad;
-    };
-    signed(d, neg)
-}
-
-// How many bytes the sign has, `first` being the run's first byte.
-fn sign_size(first: u8) -> usize
-    ensures { result ≡ sign_size first }
-{
-    ((first == b'-') | (first == b'+')) as usize
 }
 
 // The nanoseconds of a run, or none.
-pub fn parse(run: &[u8]) -> Parsed
+pub fn parse(run: &[u8]) -> Option<i64>
     ensures { result ≡ parse_of run.now }
 {
-    let first = base::peek(run, 0);
-    let start = sign_size(first);
-    unsigned_run(&run[start..], first == b'-')
+    match run {
+        [b'-', rest @ ..] => unsigned_run(rest, true),
+        [b'+', rest @ ..] => unsigned_run(rest, false),
+        _ => unsigned_run(run, false),
+    }
 }

@@ -9,6 +9,7 @@ use borrow.Author.Tests.{eqb-true, not-false}
 use lib.Dec.{ltb, eqb}
 use lib.ListN.{length, take}
 use lib.Seq.{get_or-take, length-take-le}
+use Rattle.std.proofs.Common.{Option, Some, None, ℤ}
 use Rattle.base.specs.Choice.{pick}
 use Rattle.base.specs.Bytes.{byte, same_bytes}
 use Rattle.base.specs.Classes.{is_digit, is_lower_alpha, is_ident_part, is_duration_unit}
@@ -25,8 +26,6 @@ use Rattle.token.specs.declared.kind.TokenKind.{TokenKind}
 use Rattle.lexeme.specs.Lexeme.{illegal, precise}
 use Rattle.lexeme.proofs.Within.{extent_within, illegal_within, precise_within, duration_within}
 use Rattle.go_duration.specs.Parse.{unsigned, parse_of}
-use Rattle.go_duration.specs.declared.parse.Parsed.TheVariants as parsed
-use Rattle.go_duration.specs.declared.parse.Parsed.{Parsed}
 use Rattle.go_duration.proofs.Durations.{sent_digit, sent_minus}
 use Rattle.rfc3339.specs.Instant.{date_of, is_date}
 use Rattle.rfc3339.specs.declared.parse.Instant.TheVariants as instant
@@ -135,9 +134,9 @@ module _ (s : List ℕ) where
         go (digit e q) = rw e
         go (minus e q) = rw e
 
-    duration_run : (p : Parsed) → parse_of (take n s) ≡ p → Ends s n → Scanned s (duration_by p n)
+    duration_run : (p : Option ℤ) → parse_of (take n s) ≡ p → Ends s n → Scanned s (duration_by p n)
     unfolding kind_number
-    duration_run (parsed.Nanos z) e g =
+    duration_run (Some z) e g =
         record {
           within = duration_within s n z g.some g.inside;
           not_eof = λ q. absurd (omega (arith, ap kind_number q));
@@ -146,11 +145,11 @@ module _ (s : List ℕ) where
           duration = λ q. record { value = e; first = begun; no_plus = sent.0; not_zero = sent.1 };
           timestamp = no_stamp (λ q. absurd (omega (arith, ap kind_number q))) (omega arith);
         }
-    duration_run parsed.Bad e g = illegal_scanned s n g reasons.bad_duration 0 (omega arith) (omega arith)
+    duration_run None e g = illegal_scanned s n g reasons.bad_duration 0 (omega arith) (omega arith)
 
-  duration_flat : (p : Parsed) (n : ℕ) → Flat s n → Flat s (duration_by p n).len
-  duration_flat (parsed.Nanos z) n f = f
-  duration_flat parsed.Bad n f = f
+  duration_flat : (p : Option ℤ) (n : ℕ) → Flat s n → Flat s (duration_by p n).len
+  duration_flat (Some z) n f = f
+  duration_flat None n f = f
 
   -- a number whose digits end at n and whose fraction ends at f
   tail_on_line : (n f : ℕ) → Begins s f → Goes s 0 f → OnLine s (lex_tail s n f)

@@ -8,6 +8,7 @@ use Prim.Native.Nat.{ℕ, ◌+◌, ◌≤◌, ◌<◌}
 use native.Mathlib.Omega.{arith}
 use lib.Dec.{eqb}
 use lib.ListN.{length, take}
+use Rattle.std.proofs.Common.{Some}
 use Rattle.base.specs.Bytes.{byte, same_bytes}
 use Rattle.base.specs.Classes.{is_digit}
 use Rattle.base.proofs.Tests.{true_false}
@@ -22,7 +23,6 @@ use Rattle.lexeme.specs.declared.Lexeme.{Lexeme}
 use Rattle.lexeme.proofs.Within.{Within, extent_within, illegal_within}
 use Rattle.utf8.specs.Onward.{Boundary}
 use Rattle.go_duration.specs.Parse.{unsigned, parse_of}
-use Rattle.go_duration.specs.declared.parse.Parsed.TheVariants as parsed
 use Rattle.rfc3339.specs.Instant.{date_of, is_date}
 
 -- a kind that is none of these
@@ -50,7 +50,7 @@ plain k e =
 
 -- a Duration: its nanoseconds are those of its run, which begins with a digit or `-` and after that is not `0` alone
 pub record DurationRun (s : List ℕ) (r : Lexeme) : Type 0 where
-  pub value : parse_of (take r.len s) ≡ parsed.Nanos r.nanos
+  pub value : parse_of (take r.len s) ≡ Some r.nanos
   pub first : is_digit (byte s 0) || eqb (byte s 0) 45 ≡ true
   pub no_plus : byte (take r.len s) 0 ≡ 43 → ⊥
   pub not_zero : same_bytes (unsigned (take r.len s)) (48 ∷ []) ≡ false

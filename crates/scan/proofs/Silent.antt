@@ -5,6 +5,7 @@ use mathlib.Core.List.{List}
 use Prim.Native.Nat.{ℕ, ◌+◌, ◌-◌}
 use lib.Dec.{ltb, eqb}
 use lib.ListN.{take, drop}
+use Rattle.std.proofs.Common.{Option, Some, None, ℤ}
 use Rattle.base.specs.Choice.{pick}
 use Rattle.base.specs.Bytes.{byte, same_bytes}
 use Rattle.base.specs.Classes.{is_digit}
@@ -12,8 +13,6 @@ use Rattle.base.specs.Digits.{in_digits}
 use Rattle.base.specs.Runs.{reach, past}
 use Rattle.base.proofs.Tests.{pick_case}
 use Rattle.go_duration.specs.Parse.{parse_of}
-use Rattle.go_duration.specs.declared.parse.Parsed.{Parsed}
-use Rattle.go_duration.specs.declared.parse.Parsed.TheVariants as parsed
 use Rattle.rfc3339.specs.Instant.{date_of}
 use Rattle.rfc3339.specs.declared.parse.Instant.{Instant}
 use Rattle.rfc3339.specs.declared.parse.Instant.TheVariants as instant
@@ -58,9 +57,9 @@ module _ (s : List ℕ) where
   unfolding lex_precision
   precision_silent k e = pick_case Silent (eqb (byte s e) 112 && is_digit (byte s (e + 1))) (λ _. refl) (λ _. refl)
 
-  duration_silent : (p : Parsed) (n : ℕ) → (duration_by p n).reports ≡ 0
-  duration_silent (parsed.Nanos z) n = refl
-  duration_silent parsed.Bad n = refl
+  duration_silent : (p : Option ℤ) (n : ℕ) → (duration_by p n).reports ≡ 0
+  duration_silent (Some z) n = refl
+  duration_silent None n = refl
 
   tail_silent : (n f : ℕ) → (lex_tail s n f).reports ≡ 0
   unfolding lex_tail lex_duration

@@ -1,5 +1,5 @@
 -- Numbers, timestamps and durations: `lex_number` and what it calls.
-use Rattle.std.specs.Prelude.{Bool, not, ◌&&◌, ◌||◌, List, ℕ, ◌+◌, ltb, eqb, take}
+use Rattle.std.specs.Prelude.{Bool, not, ◌&&◌, ◌||◌, Option, Some, None, List, ℕ, ℤ, ◌+◌, ltb, eqb, take}
 use Prim.Native.Char.{code}
 use Rattle.base.specs.Choice.{pick}
 use Rattle.base.specs.Bytes.{byte}
@@ -7,8 +7,6 @@ use Rattle.base.specs.Classes.{is_digit, is_ident_part, is_duration_unit}
 use Rattle.base.specs.Digits.{in_digits}
 use Rattle.base.specs.Runs.{reach, past}
 use Rattle.go_duration.specs.Parse.{parse_of}
-use Rattle.go_duration.specs.declared.parse.Parsed.{Parsed}
-use Rattle.go_duration.specs.declared.parse.Parsed.TheVariants as parsed
 use Rattle.rfc3339.specs.Instant.{date_of}
 use Rattle.rfc3339.specs.declared.parse.Instant.{Instant}
 use Rattle.rfc3339.specs.declared.parse.Instant.TheVariants as instant
@@ -19,7 +17,7 @@ use Rattle.lexeme.specs.Lexeme.{whole, illegal, precise, duration}
 use Rattle.lexeme.specs.declared.Lexeme.{Lexeme}
 use Rattle.scan.specs.Run.{in_stamp, unit_piece}
 
--- Types that other files explain: `Parsed` in go_duration/specs/Parse.antt; `Instant` in rfc3339/specs/Instant.antt; `TokenKind` in
+-- Types that other files explain: `Instant` in rfc3339/specs/Instant.antt; `TokenKind` in
 -- token/specs/Kind.antt; `Lexeme` in lexeme/specs/Lexeme.antt; `Run` in Run.antt.
 
 -- `lex_precision`: a number that ends at e; its precision is `p` and one or more digits, or nothing
@@ -48,9 +46,9 @@ unfoldable pub at_duration_unit : ℕ → ℕ → Bool
 at_duration_unit a b = is_duration_unit a || (eqb a 0xC2 && eqb b 0xB5)
 
 -- a duration of n bytes where `go_duration::parse` accepts it, else "18 bad duration"
-abbrev pub duration_by : Parsed → ℕ → Lexeme
-duration_by (parsed.Nanos z) n = duration n z
-duration_by parsed.Bad n = illegal reasons.bad_duration 0 n
+abbrev pub duration_by : Option ℤ → ℕ → Lexeme
+duration_by (Some z) n = duration n z
+duration_by None n = illegal reasons.bad_duration 0 n
 
 -- `lex_duration`, the units from f on
 unfoldable pub lex_duration : List ℕ → ℕ → Lexeme

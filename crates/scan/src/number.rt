@@ -8,7 +8,7 @@ use base::class::{begins_unit, is_digit, is_ident_part};
 use base::digits::Digits;
 use base::peek;
 use base::runs::reach_run;
-use go_duration::parse::{Parsed, parse};
+use go_duration::parse::parse;
 use lexeme::Lexeme;
 use rfc3339::parse::Instant;
 use token::kind::TokenKind;
@@ -89,8 +89,8 @@ fn lex_duration(s: &[u8], f: usize) -> Lexeme
 {
     let len = past_units(s, f);
     match parse(&s[..len]) {
-        Parsed::Nanos(nanos) => Lexeme::duration(len, nanos),
-        Parsed::Bad => Lexeme::illegal(reason::BAD_DURATION, 0, len),
+        Some(nanos) => Lexeme::duration(len, nanos),
+        None => Lexeme::illegal(reason::BAD_DURATION, 0, len),
     }
 }
 

@@ -8,6 +8,7 @@ use native.Mathlib.Omega.{arith}
 use borrow.Author.Tests.{ltb-true, ltb-false, eqb-true, not-false, ne_eqb}
 use lib.Dec.{ltb, eqb}
 use lib.ListN.{take, drop}
+use Rattle.std.proofs.Common.{Option, Some, None, ℤ}
 use Rattle.base.specs.Choice.{pick}
 use Rattle.base.specs.Bytes.{byte}
 use Rattle.base.specs.Classes.{is_digit, is_lower_alpha}
@@ -19,8 +20,6 @@ use Rattle.token.specs.Kind.{kind_number}
 use Rattle.token.specs.Helpers.{is_duration}
 use Rattle.lexeme.specs.declared.Lexeme.{Lexeme}
 use Rattle.go_duration.specs.Parse.{parse_of}
-use Rattle.go_duration.specs.declared.parse.Parsed.{Parsed}
-use Rattle.go_duration.specs.declared.parse.Parsed.TheVariants as parsed
 use Rattle.scan.specs.Run.{unit_piece}
 use Rattle.scan.specs.Number.{lex_precision, past_fraction, at_duration_unit, duration_by, lex_duration, goes_on_float, number_kind, value_end}
 use Rattle.scan.specs.Number.{lex_tail, lex_digits, at_inf, is_sign, lex_number}
@@ -104,9 +103,9 @@ module _ (s : List ℕ) where
   abbrev Fits : Lexeme → Type 0
   Fits r = is_duration r.kind ≡ true → Fit s 0 r.len
 
-  duration_fits : (p : Parsed) (n : ℕ) → Fit s 0 n → Fits (duration_by p n)
-  duration_fits (parsed.Nanos z) n f e = f
-  duration_fits parsed.Bad n f e = f
+  duration_fits : (p : Option ℤ) (n : ℕ) → Fit s 0 n → Fits (duration_by p n)
+  duration_fits (Some z) n f e = f
+  duration_fits None n f e = f
 
   precision_fits : (x : Bool) (e : ℕ) → Fits (lex_precision (number_kind x) s e)
   unfolding lex_precision kind_number

@@ -11,6 +11,7 @@ use lib.Dec.{leb, eqb}
 use lib.IntN.{ℤ}
 use lib.ListN.{length, drop, length-append}
 use lib.Seq.{take-append_seam, drop-append_seam}
+use Rattle.std.proofs.Common.{Option, Some, None, ℤ}
 use Rattle.base.specs.Choice.{pick}
 use Rattle.base.specs.Bytes.{byte, each}
 use Rattle.base.specs.Classes.{is_digit, is_space}
@@ -20,8 +21,6 @@ use Rattle.token.specs.Kind.{kind_number}
 use Rattle.go_duration.specs.Fraction.{most}
 use Rattle.go_duration.specs.Parse.{sign_of, parse_of}
 use Rattle.go_duration.specs.Written.{WrittenPart, part_bytes, Duration, total_of}
-use Rattle.go_duration.specs.declared.parse.Parsed.TheVariants as parsed
-use Rattle.go_duration.specs.declared.parse.Parsed.{Parsed}
 use Rattle.go_duration.proofs.Durations.{complete, refused}
 use Rattle.scan.specs.Run.{unit_piece}
 use Rattle.scan.specs.Number.{duration_by, lex_number}
@@ -103,11 +102,11 @@ module _ (neg : Bool) (b : List ℕ) (e : each is_space b ≡ true) where
       size true = omega (arith, walk_pieces q b, walk_blanks b e, length-append (part_bytes p) s)
       size false = omega (arith, walk_pieces q b, walk_blanks b e, length-append (part_bytes p) s)
 
-  seen_by_lem : {ps : List WrittenPart} (t : List ℕ) → Pieces ps t → is_digit (byte t 0) ≡ true → (r : Parsed) → parse_of (signed neg t) ≡ r
+  seen_by_lem : {ps : List WrittenPart} (t : List ℕ) → Pieces ps t → is_digit (byte t 0) ≡ true → (r : Option ℤ) → parse_of (signed neg t) ≡ r
       → seen_at (signed neg t ++ b) ≡ seen_by (duration_by r (length (signed neg t))) true
-  seen_by_lem t q d (parsed.Nanos z) h =
+  seen_by_lem t q d (Some z) h =
       rw (starts t d, number_is q d, h, to_end (signed neg t), eq-eqb (length (signed neg t ++ b)) (length (signed neg t ++ b)) refl)
-  seen_by_lem t q d parsed.Bad h =
+  seen_by_lem t q d None h =
       rw (starts t d, number_is q d, h, to_end (signed neg t), eq-eqb (length (signed neg t ++ b)) (length (signed neg t ++ b)) refl)
 
   abbrev fitting : ℕ → Option ℤ
@@ -118,9 +117,9 @@ module _ (neg : Bool) (b : List ℕ) (e : each is_space b ≡ true) where
   seen_total {ps} t q d =
       let w : Duration neg ps (signed neg t) = record { rest = t; parts = pieces_parts q; some = some q d; bytes = refl } in
       by_cases (leb (top neg (total_of ps)) most)
-      (λ l. rw l (seen_by_lem t q d (parsed.Nanos (sign_of neg (total_of ps)))
+      (λ l. rw l (seen_by_lem t q d (Some (sign_of neg (total_of ps)))
       (complete neg ps (signed neg t) (record { form = w; bound = leb-true (top neg (total_of ps)) most l }))))
-      (λ l. rw l (seen_by_lem t q d parsed.Bad (refused neg ps (signed neg t) w (λ h. let g = leb-false (top neg (total_of ps)) most l in omega arith))))
+      (λ l. rw l (seen_by_lem t q d None (refused neg ps (signed neg t) w (λ h. let g = leb-false (top neg (total_of ps)) most l in omega arith))))
     where
       some : {ps : List WrittenPart} {t : List ℕ} → Pieces ps t → is_digit (byte t 0) ≡ true → 0 < length ps
       some no_piece d = true_false (is_digit 0) d no_digit

@@ -1,32 +1,39 @@
 -- `leading_fraction` reads the digits at the front: those that are kept, one after the other, and the end of the rest. Assumes nothing.
-use Rattle.std.proofs.Common.{sym, ◌∙◌, arith}
-use Rattle.base.proofs.Tests.{told}
-use Rattle.go_duration.proofs.DigitSteps.{Keeps, keeps_told, kept_more, kept_all, fraction_is}
-use Rattle.go_duration.proofs.Scales.{scale_step}
-use Rattle.go_duration.proofs.fraction.leading_fraction.Goals.{In-loop-f}
+use Rattle.std.proofs.Common.{◌≡◌}
+use Rattle.go_duration.specs.Fraction.{no_digits, read_digits}
+use Rattle.go_duration.specs.Digits.{acc_of}
+use Rattle.go_duration.proofs.DigitsRead.{kept_read}
+use Rattle.go_duration.proofs.DigitSteps.{kept_zeros, kept_inside, kept_digit, kept_more, kept_over, kept_all}
+use Rattle.go_duration.proofs.fraction.leading_fraction.Goals.{In_default, After-loop-kept}
 use Rattle.go_duration.proofs.fraction.leading_fraction.Goals as goal
 
--- past the test a digit stands at `kept` that is kept
-at_digit : (c : In-loop-f) → let l = c.loop-f in Keeps c.args.s.now l.kept l.f
-at_digit c = keeps_told _ _ _ (sym c.keeps.ensures ∙ c.loop-f-test.true)
+-- the digits, where one is not kept, and where all are
+over : (c : In_default) → let l = c.loop-kept in acc_of l.f l.kept c.digits_end-count.result ≡ read_digits c.args.s.now no_digits
+over c = kept_over _ _ _ _ c.loop-kept.invariant c.loop-kept-test.true c.in_default.ensures
+
+all : (c : After-loop-kept) → let n = c.digits_end-count.result in acc_of c.loop-kept.f n n ≡ read_digits c.args.s.now no_digits
+all c = search kept_all
+
+pub loop-kept-init : goal.loop-kept-init
+loop-kept-init c = search kept_zeros
 
 pub bounds-s-kept : goal.bounds-s-kept
-bounds-s-kept c =
-    let at = goal.at.bounds-s-kept c in
-    (at_digit at.In-loop-f).inside
+bounds-s-kept c = search kept_inside
 
-pub overflow_sub-f : goal.overflow_sub-f
-overflow_sub-f c =
-    let at = goal.at.overflow_sub-f c in
-    (at_digit at.In-loop-f).low
+pub with_digit-requires : goal.with_digit-requires
+with_digit-requires c = search kept_digit
 
-pub loop-f-smaller : goal.loop-f-smaller
-loop-f-smaller c =
-    let at = goal.at.loop-f-smaller c in
-    omega (arith, (at_digit at.In-loop-f).inside)
+pub invariant_of-result : goal.invariant_of-result
+invariant_of-result c = let r = kept_read _ _ _ _ _ (over c) in record { fits = r.0; digits = r.1 }
 
-pub loop-f-preserved : goal.loop-f-preserved
-loop-f-preserved c = search (kept_more, scale_step, told)
+pub returns-in_default : goal.returns-in_default
+returns-in_default c = over (goal.at.returns-in_default c).In_default
+
+pub loop-kept-preserved : goal.loop-kept-preserved
+loop-kept-preserved c = kept_more _ _ _ _ c.loop-kept.invariant c.loop-kept-test.true _ c.in-Some.ensures
+
+pub invariant_of-result-2 : goal.invariant_of-result-2
+invariant_of-result-2 c = let r = kept_read _ _ _ _ _ (all c) in record { fits = r.0; digits = r.1 }
 
 pub returns : goal.returns
-returns c = search (fraction_is, kept_all, told)
+returns c = all (goal.at.returns c).After-loop-kept

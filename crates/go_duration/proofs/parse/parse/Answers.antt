@@ -1,23 +1,21 @@
 -- `parse` is `parse_of`: the run after its sign, under that sign. Assumes nothing.
-use Rattle.std.proofs.Common.{◌≤◌, length, ◌∙◌}
+use Rattle.std.proofs.Common.{◌∙◌, true, false, arith}
+use Rattle.std.proofs.lemmas.Bool.Decides.{nat_tests}
 use Rattle.base.proofs.Reaches.{rest_is}
-use Rattle.go_duration.proofs.RunSteps.{run_is, sign_le}
-use Rattle.go_duration.proofs.parse.parse.Goals.{After-sign_size-start}
+use Rattle.go_duration.proofs.RunSteps.{run_signed, run_plain, run_none}
+use Rattle.go_duration.proofs.parse.parse.Goals.{in_default-via-then-run-lt1, in_default-via-else-run-lt1+in_default-1}
 use Rattle.go_duration.proofs.parse.parse.Goals as goal
 
--- the sign lies in the run
-sign_in : (c : After-sign_size-start) → c.sign_size-start.result ≤ length c.args.run.now
-sign_in c = rw (c.sign_size-start.ensures, c.peek-first.ensures) (sign_le c.args.run.now)
+pub returns-in-45 : goal.returns-in-45
+returns-in-45 c = (rw rest_is at c.unsigned_run.ensures) ∙ run_signed _ true (omega arith)
 
-pub slice_bounds-unsigned_run-count : goal.slice_bounds-unsigned_run-count
-slice_bounds-unsigned_run-count c =
-    let at = goal.at.slice_bounds-unsigned_run-count c in
-    sign_in at.After-sign_size-start
+pub returns-in-43 : goal.returns-in-43
+returns-in-43 c = (rw rest_is at c.unsigned_run-in-43.ensures) ∙ run_signed _ false (omega arith)
 
-pub slice_bounds-unsigned_run-start : goal.slice_bounds-unsigned_run-start
-slice_bounds-unsigned_run-start c =
-    let at = goal.at.slice_bounds-unsigned_run-start c in
-    sign_in at.After-sign_size-start
-
-pub returns : goal.returns
-returns c = (rw (rest_is, c.sign_size-start.ensures, c.peek-first.ensures) at c.unsigned_run.ensures) ∙ run_is _
+pub returns-in_default : goal.returns-in_default
+returns-in_default c =
+    c.unsigned_run-in_default.ensures
+    ∙ elim c.in_default.branch [
+      | in_default-via-then-run-lt1 w ↦ run_none _ (grind (arith, nat_tests))
+      | in_default-via-else-run-lt1+in_default-1 w ↦ run_plain _ (λ e. grind (arith, nat_tests)) (λ e. grind (arith, nat_tests))
+    ]

@@ -1,38 +1,36 @@
--- `unsigned_run` is `parse_unsigned`, by the tests on the way and what `sum` and `signed` answer. Assumes nothing.
-use Rattle.std.proofs.Common.{◌≡◌, ℕ, Bool, ◌&&◌, eqb, List, length, sym, ap, ◌∙◌}
-use Rattle.go_duration.specs.Parse.{with_sign}
+-- `unsigned_run` is `parse_unsigned`, by the patterns on the way and what `sum` and `signed` answer. Assumes nothing.
+use Rattle.std.proofs.Common.{◌≡◌, ℕ, Option, Some, None, ap, ◌∙◌, arith}
+use Rattle.std.proofs.lemmas.Bool.Decides.{nat_tests}
+use Rattle.go_duration.specs.Parse.{sum_from, with_sign}
 use Rattle.go_duration.specs.Stages.{parse_unsigned}
-use Rattle.go_duration.specs.declared.parse.Total.{Total}
 use Rattle.go_duration.proofs.RunSteps.{run_empty, run_zero, run_sum}
 use Rattle.go_duration.proofs.WrittenRuns.{sum_fits}
+use Rattle.go_duration.proofs.parse.unsigned_run.Goals.{In_default, in_default-via-then-s-lt2+in_default-1, in_default-via-else-s-lt2}
 use Rattle.go_duration.proofs.parse.unsigned_run.Goals as goal
 
-pub returns-then-n-eq0 : goal.returns-then-n-eq0
-unfolding with_sign
-returns-then-n-eq0 c = search run_empty
+-- past the patterns the run is its sum under the sign
+summed : (c : In_default) (t : Option ℕ) → t ≡ sum_from 0 0 c.args.s.now → with_sign c.args.neg t ≡ parse_unsigned c.args.neg c.args.s.now
+summed c t e =
+    ap (with_sign c.args.neg) e
+    ∙ elim c.in_default.branch [
+      | in_default-via-then-s-lt2+in_default-1 w ↦ run_sum _ _ (λ z. grind (arith, nat_tests)) (λ z y. grind (arith, nat_tests))
+      | in_default-via-else-s-lt2 w ↦ run_sum _ _ (λ z. grind (arith, nat_tests)) (λ z y. grind (arith, nat_tests))
+    ]
 
-pub returns-then-n-peek : goal.returns-then-n-peek
-returns-then-n-peek c = let s = c.args.s.now in
-    run_zero _ s (ap (λ (b : ℕ). eqb (length s) 1 && eqb b 48) (sym c.peek.ensures) ∙ c.if-n-peek.true)
+pub returns-in-empty : goal.returns-in-empty
+returns-in-empty c = run_empty _ _ (omega arith)
 
-pub returns-in_default : goal.returns-in_default
-unfolding with_sign
-returns-in_default c =
-    let s : List ℕ = c.args.s.now in
-    let summed : (neg : Bool) (t : Total) → c.sum-total.result ≡ t → with_sign neg t ≡ parse_unsigned neg s =
-    λ neg t q. ap (with_sign neg) (sym q ∙ c.sum-total.ensures) ∙ run_sum neg s c.if-n-eq0.false
-    (ap (λ (b : ℕ). eqb (length s) 1 && eqb b 48) (sym c.peek.ensures) ∙ c.if-n-peek.false) in
-    summed _ _ c.in_default.is
+pub returns-in-48 : goal.returns-in-48
+returns-in-48 c = run_zero _ _ (omega arith) (omega arith)
 
 pub signed-requires : goal.signed-requires
-unfolding with_sign
-signed-requires c = sum_fits _ _ (sym c.in-Sum.is ∙ c.sum-total.ensures)
+signed-requires c = sum_fits _ _ c.in_ok-sum-in_default.ensures
 
-pub returns : goal.returns
+pub returns-in_err-sum-in_default : goal.returns-in_err-sum-in_default
 unfolding with_sign
-returns c =
-    let s : List ℕ = c.args.s.now in
-    let summed : (neg : Bool) (t : Total) → c.sum-total.result ≡ t → with_sign neg t ≡ parse_unsigned neg s =
-    λ neg t q. ap (with_sign neg) (sym q ∙ c.sum-total.ensures) ∙ run_sum neg s c.if-n-eq0.false
-    (ap (λ (b : ℕ). eqb (length s) 1 && eqb b 48) (sym c.peek.ensures) ∙ c.if-n-peek.false) in
-    c.signed.ensures ∙ summed _ _ c.in-Sum.is
+returns-in_err-sum-in_default c =
+    c.from_residual.ensures ∙ summed (goal.at.returns-in_err-sum-in_default c).In_default None c.in_err-sum-in_default.ensures
+
+pub returns-in_ok-sum-in_default : goal.returns-in_ok-sum-in_default
+returns-in_ok-sum-in_default c =
+    c.signed.ensures ∙ summed (goal.at.returns-in_ok-sum-in_default c).In_default (Some _) c.in_ok-sum-in_default.ensures

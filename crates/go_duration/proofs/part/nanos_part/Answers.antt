@@ -1,38 +1,21 @@
--- `nanos_part` is `nanos_part`: the quotient's test is that of the product, and the product of a small number passes it. The fraction is at most the
--- unit, so the sum fits. Assumes nothing.
-use Rattle.std.proofs.Common.{◌*◌, ◌≤◌, pos_of_ne-zero, arith}
-use Rattle.go_duration.specs.Fraction.{most}
-use Rattle.go_duration.specs.Digits.{UnitNanos}
-use Rattle.go_duration.proofs.PartSteps.{product_le, small_le, digits_le, unknown_unit, product_over, sum_over, sum_value}
+-- `nanos_part` is `nanos_part`: the last of its tests decides. Assumes nothing.
+use Rattle.std.proofs.Common.{◌≡◌, ◌+◌, ◌*◌, refl, ◌∙◌, arith}
+use Rattle.go_duration.specs.Fraction.{frac_of}
+use Rattle.go_duration.specs.Digits.{acc_of}
+use Rattle.go_duration.proofs.PartSteps.{nanos_over, nanos_sum}
 use Rattle.go_duration.proofs.part.nanos_part.Goals as goal
-use Rattle.go_duration.proofs.part.nanos_part.Goals.{Else-unit-eq0, Joined-value-gt-SMALL, then-value-gt-SMALL+else-value-unit, else-value-gt-SMALL}
 
-unit_known : (c : Else-unit-eq0) → UnitNanos c.args.unit
-unit_known c = record { some = pos_of_ne-zero c.if-unit-eq0.false; top = c.requires.at_most_an_hour }
+pub returns-in_err-checked_mul : goal.returns-in_err-checked_mul
+returns-in_err-checked_mul c =
+    c.from_residual.ensures ∙ nanos_over _ _ _ _ refl (let over = c.in_err-checked_mul.ensures in omega arith)
 
--- past the tests of the number, the product is at most 2^63
-product_fits : (c : Joined-value-gt-SMALL) → c.args.value * c.args.unit ≤ most
-product_fits c =
-    elim c.if-value-gt-SMALL.branch [
-      | then-value-gt-SMALL+else-value-unit w ↦ product_le _ _ (pos_of_ne-zero c.if-unit-eq0.false) w.if-value-unit.false
-      | else-value-gt-SMALL w ↦ small_le _ _ w.if-value-gt-SMALL.false c.requires.at_most_an_hour
-    ]
-
-pub returns-then-unit-eq0 : goal.returns-then-unit-eq0
-returns-then-unit-eq0 c = search unknown_unit
-
-pub returns-then-value-unit : goal.returns-then-value-unit
-returns-then-value-unit c = search product_over
-
-pub overflow_add-nanos : goal.overflow_add-nanos
-overflow_add-nanos c =
-    let a = c.args in
-    let p = goal.at.overflow_add-nanos c in
-    let e = c.nanos.ensures in
-    omega (arith, product_fits p.Joined-value-gt-SMALL, digits_le a.digits a.unit c.requires.was_read (unit_known p.Else-unit-eq0))
-
-pub returns-then-nanos-gt-MOST : goal.returns-then-nanos-gt-MOST
-returns-then-nanos-gt-MOST c = let p = product_fits (goal.at.returns-then-nanos-gt-MOST c).Joined-value-gt-SMALL in search sum_over
+pub returns-in_err-nanos : goal.returns-in_err-nanos
+returns-in_err-nanos c =
+    c.from_residual-in_err-nanos.ensures
+    ∙ nanos_over _ _ _ _ refl (let over = c.in_err-nanos.ensures in omega (arith, c.in_ok-checked_mul.ensures, c.nanos.ensures))
 
 pub returns : goal.returns
-returns c = let p = product_fits (goal.at.returns c).Joined-value-gt-SMALL in search sum_value
+returns c =
+    c.then_some.ensures ∙ nanos_sum _ _ _ _ (let a = c.args in let d = a.digits in
+    let sum : c.in_ok-nanos.nanos ≡ a.value * a.unit + frac_of (acc_of d.f d.kept d.count) a.unit =
+    omega (arith, c.in_ok-nanos.ensures, c.in_ok-checked_mul.ensures, c.nanos.ensures) in sum)

@@ -1,21 +1,14 @@
--- `unit_size` is the end of the unit's run: the run from `i` on has the same end. Assumes nothing.
-use Rattle.std.proofs.Common.{◌≡◌, ℕ, Bool, true, false, not, ◌||◌, eqb}
+-- `unit_size` is the end of the unit's run: the place of the first byte that is a digit or a point, or the end. Assumes nothing.
+use Rattle.std.proofs.Common.{◌||◌, eqb, refl, ◌∙◌, rules, tests}
+use Rattle.std.proofs.lemmas.Iterator.{YieldsList-from_slice}
+use Rattle.std.proofs.lemmas.Iterator.Search.{position_from_yields_List}
 use Rattle.base.specs.Classes.{is_digit}
-use Rattle.base.proofs.Reaches.{loop_step, loop_stop, loop_end}
+use Rattle.go_duration.specs.Parse.{in_unit}
+use Rattle.go_duration.proofs.Firsts.{found_end}
 use Rattle.go_duration.proofs.part.unit_size.Goals as goal
 
--- the test of the byte, as the code makes it
-no_unit_lem : (x : Bool) (b : ℕ) → x ≡ is_digit b → x || eqb b 46 ≡ true → not (is_digit b || eqb b 46) ≡ false
-no_unit_lem x b e f = rw (← e, f)
-
-unit : (x : Bool) (b : ℕ) → x ≡ is_digit b → x || eqb b 46 ≡ false → not (is_digit b || eqb b 46) ≡ true
-unit x b e f = rw (← e, f)
-
-pub returns-then-is_digit-c : goal.returns-then-is_digit-c
-returns-then-is_digit-c c = search (loop_stop, no_unit_lem)
-
-pub loop-i-preserved : goal.loop-i-preserved
-loop-i-preserved c = search (loop_step, unit)
-
 pub returns : goal.returns
-returns c = search loop_end
+returns c =
+    c.unwrap_or.ensures
+    ∙ found_end in_unit (λ a. is_digit a || eqb a 46) (λ a b. refl) _ _
+    (position_from_yields_List _ _ _ _ c.position.ensures.ran (YieldsList-from_slice _ c.iter.ensures.rest) (λ x b q k. search (rules, tests)))

@@ -13,11 +13,11 @@ use Rattle.scan.proofs.number.lex_duration.Goals as goal
 pub slice_bounds-parse-end : goal.slice_bounds-parse-end
 slice_bounds-parse-end c = sym (length-take-le _ _ (rw c.past_units-len.ensures (past_le unit_piece _ _ c.requires)))
 
-pub returns-in-Nanos : goal.returns-in-Nanos
+pub returns-in-Some : goal.returns-in-Some
 unfolding lex_duration
-returns-in-Nanos c = let f : SFits w64 c.in-Nanos.nanos = search rules in
-    rw (← c.past_units-len.ensures, ← c.parse.ensures, c.in-Nanos.is) (rw (to_z-of_z w64 _ f) at c.duration.ensures)
+returns-in-Some c = let f : SFits w64 c.in-Some.nanos = search rules in
+    rw (← c.past_units-len.ensures, ← c.parse.ensures, c.in-Some.is) (rw (to_z-of_z w64 _ f) at c.duration.ensures)
 
-pub returns-in-Bad : goal.returns-in-Bad
+pub returns-in-None : goal.returns-in-None
 unfolding lex_duration
-returns-in-Bad c = rw (← c.past_units-len.ensures, ← c.parse.ensures, c.in-Bad.is) c.illegal.ensures
+returns-in-None c = rw (← c.past_units-len.ensures, ← c.parse.ensures, c.in-None.is) c.illegal.ensures

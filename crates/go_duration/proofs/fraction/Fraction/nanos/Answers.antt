@@ -1,21 +1,22 @@
--- `Fraction::nanos` is `frac_of`: digits that were read are proper, as `nanos_of` asks. Assumes nothing.
-use Rattle.std.proofs.Common.{◌∙◌}
-use Rattle.go_duration.specs.Fraction.{no_digits, read_digits}
-use Rattle.go_duration.proofs.DigitSteps.{acc_is, scaled}
-use Rattle.go_duration.proofs.DigitsRead.{proper_read, frac_some, frac_none}
+-- `Fraction::nanos` is `frac_of`: what is truncated is `product_of`, which is in range. Assumes nothing.
+use Rattle.std.proofs.Common.{◌∙◌, pos_of_ne-zero}
+use Rattle.go_duration.proofs.Distance.{product_range, product_nanos}
+use Rattle.go_duration.proofs.DigitsRead.{frac_some, frac_none}
 use Rattle.go_duration.proofs.fraction.Fraction.nanos.Goals as goal
 
-pub nanos_of-requires : goal.nanos_of-requires
-nanos_of-requires c = let s = c.args.self in
-    let r = c.requires.was_read in
-    record {
-      is_proper = proper_read r.text s.f s.kept s.count s.over (acc_is s _ r.same) c.if-f-gt0.true;
-      is_scale = rw r.same (scaled (read_digits r.text no_digits));
-      is_unit = c.requires.is_unit;
-    }
+pub returns-then-self-eq0 : goal.returns-then-self-eq0
+returns-then-self-eq0 c = search frac_none
 
-pub returns-then-f-gt0 : goal.returns-then-f-gt0
-returns-then-f-gt0 c = c.nanos_of.ensures ∙ frac_some _ _ _ _ _ c.if-f-gt0.true
+pub truncating_f64_to_u64-requires : goal.truncating_f64_to_u64-requires
+truncating_f64_to_u64-requires c =
+    let s = c.args.self in
+    let r = product_range s.f s.kept c.args.unit _ _ _ c.nearest_u64_to_f64.ensures c.nearest_u64_to_f64-size.ensures c.scale_of.ensures
+    (record { some = pos_of_ne-zero c.if-self-eq0.false; fits = s.fits; digits = s.digits }) c.requires in
+    record { lower_bound = r.0; upper_bound = r.1 }
 
 pub returns : goal.returns
-returns c = search frac_none
+returns c =
+    let s = c.args.self in
+    product_nanos s.f s.kept c.args.unit _ _ _ c.nearest_u64_to_f64.ensures c.nearest_u64_to_f64-size.ensures c.scale_of.ensures _
+    c.truncating_f64_to_u64.ensures
+    ∙ frac_some _ _ _ _ _ c.if-self-eq0.false

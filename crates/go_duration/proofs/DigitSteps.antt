@@ -34,7 +34,7 @@ read_none [] a e = refl
 read_none (b ∷ bs) a e = by_cases (is_digit b) (λ d. absurd (let h = rw d at e in omega arith)) (λ d. rw d)
 
 -- ---- the loop: the first i bytes of s are digits, all of them kept, and form f; the digits end at n
-pub record Kept (s : List ℕ) (n i f : ℕ) : Type 0 where
+pub record KeptTo (s : List ℕ) (n i f : ℕ) : Type 0 where
   pub ran : read_digits (drop i s) (acc f i i false) ≡ read_digits s no_digits
   pub ends : reach in_digits s i ≡ n
 
@@ -51,13 +51,13 @@ zeros_read (b ∷ s) k =
     let z : k + suc (run is_zero s) ≡ k + 1 + run is_zero s = omega arith in
     by_cases (eqb b 48) (λ e. rw (e, eqb-true b 48 e, zero_digit, z) (zeros_read s (k + 1))) (λ e. rw (e, add-zero k))
 
-pub kept_zeros : (s : List ℕ) (i : ℕ) → i ≡ reach is_zero s 0 → (n : ℕ) → n ≡ reach in_digits s i → Kept s n i 0
+pub kept_zeros : (s : List ℕ) (i : ℕ) → i ≡ reach is_zero s 0 → (n : ℕ) → n ≡ reach in_digits s i → KeptTo s n i 0
 unfolding reach
 kept_zeros s i e n h =
     let z : i ≡ run is_zero s = e ∙ zero-add (run is_zero s) in
     record { ran = rw z (rw zero-add at (zeros_read s 0)); ends = sym h }
 
-module _ (s : List ℕ) (n i f : ℕ) (u : Kept s n i f) where
+module _ (s : List ℕ) (n i f : ℕ) (u : KeptTo s n i f) where
   module _ (h : i < n) where
     pub kept_digit : is_digit (byte s i) ≡ true
     kept_digit = reach_all in_digits s i i (le_refl i) (rw u.ends h)
@@ -65,7 +65,7 @@ module _ (s : List ℕ) (n i f : ℕ) (u : Kept s n i f) where
     pub kept_inside : i < length s
     kept_inside = in_text is_digit s i no_digit kept_digit
 
-    pub kept_more : (g : ℕ) → Some g ≡ pick (room f (byte s i)) (Some (more f (byte s i))) None → Kept s n (i + 1) g
+    pub kept_more : (g : ℕ) → Some g ≡ pick (room f (byte s i)) (Some (more f (byte s i))) None → KeptTo s n (i + 1) g
     unfolding read_digits add_digit
     kept_more g e =
         let p = pick_first (room f (byte s i)) (none-some g) (sym e) in

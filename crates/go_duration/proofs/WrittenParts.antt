@@ -1,6 +1,6 @@
 -- For WrittenCuts and WrittenRuns: one written part against `part_of`. Where the part's pieces are as long as can be, `part_of` finds their ends, and of its
 -- tests on the number the last one decides. By cases on the point. Assumes nothing.
-use Rattle.std.proofs.Common.{◌≡◌, ℕ, zero, suc, ◌+◌, ◌-◌, ◌*◌, ◌<◌, Bool, true, false, not, Option, Some, None, ◌&&◌, ◌||◌, eqb, ltb, List, [], ◌∷◌, ◌++◌, length, drop, sym, refl, ◌∙◌, append_assoc, add-zero, zero-add, le-mul_of_pos_right, arith, length-append, get_or-append-add, ltb-false, le-ltb, eq-eqb, ne_eqb}
+use Rattle.std.proofs.Common.{◌≡◌, ℕ, zero, suc, ◌+◌, ◌-◌, ◌*◌, ◌<◌, Bool, true, false, not, Option, Some, None, ◌&&◌, ◌||◌, eqb, ltb, List, [], ◌∷◌, ◌++◌, length, drop, sym, refl, ◌∙◌, append_assoc, add-zero, zero-add, le-mul_of_pos_right, pos_of_ne-zero, arith, length-append, get_or-append-add, ltb-false, le-ltb, eq-eqb, ne_eqb}
 use Rattle.std.proofs.lemmas.Option.{none-some}
 use borrow.Author.Tests.{eqb-false}
 use lib.Dec.{eqb-suc-zero}
@@ -212,7 +212,4 @@ module _ (p : WrittenPart) (s : List ℕ) (c : Cut p s) where
       let a = pick_second (eqb (length p.whole + length p.fraction) 0) (none-some v) (sym judged ∙ e) in
       let b = pick_second (ltb most (value_of p.whole)) (none-some v) a.1 in
       let g = pick_second (eqb (unit_of p.unit) 0) (none-some v) b.1 in
-      (nonzero a.0, nonzero g.0)
-    where
-      nonzero : {n : ℕ} → eqb n 0 ≡ false → 0 < n
-      nonzero {n} q = let z = eqb-false n 0 q in omega arith
+      (pos_of_ne-zero (eqb-false (length p.whole + length p.fraction) 0 a.0), pos_of_ne-zero (eqb-false (unit_of p.unit) 0 g.0))

@@ -5,6 +5,7 @@ use mathlib.Core.List.{List}
 use Prim.Native.Nat.{ℕ, ◌+◌, ◌-◌}
 use lib.Dec.{ltb, eqb}
 use lib.ListN.{take, drop}
+use Rattle.std.specs.Prelude.{Option, Some, None}
 use Rattle.base.specs.Choice.{pick}
 use Rattle.base.specs.Bytes.{byte, same_bytes}
 use Rattle.base.specs.Classes.{is_digit}
@@ -15,7 +16,6 @@ use Rattle.go_duration.specs.declared.parse.Parsed.{Parsed}
 use Rattle.go_duration.specs.declared.parse.Parsed.TheVariants as parsed
 use Rattle.rfc3339.specs.Instant.{date_of}
 use Rattle.rfc3339.specs.declared.parse.Instant.{Instant}
-use Rattle.rfc3339.specs.declared.parse.Instant.TheVariants as instant
 use Rattle.token.specs.declared.kind.TokenKind.{TokenKind}
 use Rattle.lexeme.specs.declared.Lexeme.{Lexeme}
 use Rattle.scan.specs.Run.{in_run, unit_piece}
@@ -70,9 +70,9 @@ module _ (s : List ℕ) where
       (λ _. duration_silent (parse_of (take (past unit_piece s f) s)) (past unit_piece s f))
       (λ _. precision_silent (number_kind float) (value_end s f float))
 
-  date_silent : (i : Instant) (n : ℕ) → (timestamp_by i n).reports ≡ 0
-  date_silent (instant.Date z k) n = refl
-  date_silent instant.NoDate n = refl
+  date_silent : (r : Option Instant) (n : ℕ) → (timestamp_by r n).reports ≡ 0
+  date_silent (Some i) n = refl
+  date_silent None n = refl
 
   timestamp_silent : (n : ℕ) → (lex_timestamp s n).reports ≡ 0
   unfolding lex_timestamp

@@ -8,7 +8,6 @@ use base::class::{begins_unit, is_digit, is_ident_part};
 use base::peek;
 use go_duration::parse::{Parsed, parse};
 use lexeme::Lexeme;
-use rfc3339::parse::Instant;
 use token::kind::TokenKind;
 use token::reason;
 
@@ -141,8 +140,8 @@ fn lex_timestamp(s: &[u8], n: usize) -> Lexeme
 {
     let len = reach_run(Run::Stamp, s, n);
     match rfc3339::parse::parse(&s[..len]) {
-        Instant::Date { .. } => lexeme::whole(TokenKind::Timestamp, len),
-        Instant::NoDate => lexeme::illegal(reason::BAD_TIMESTAMP, 0, len),
+        Some(_) => lexeme::whole(TokenKind::Timestamp, len),
+        None => lexeme::illegal(reason::BAD_TIMESTAMP, 0, len),
     }
 }
 

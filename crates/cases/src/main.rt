@@ -200,8 +200,8 @@ fn answer_place(text: &[u8], offset: usize) {
 // Prints the instant of a timestamp's run.
 fn answer_instant(run: &[u8]) {
     match rfc3339::parse::parse(run) {
-        Instant::Date { seconds, nanos } => print_date(seconds, nanos),
-        Instant::NoDate => {
+        Some(Instant { seconds, nanos }) => print_date(seconds, nanos),
+        None => {
             io::write_all(STDOUT_FILENO, b"no date\n");
         }
     }

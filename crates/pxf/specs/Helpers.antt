@@ -1,7 +1,6 @@
 -- Helper definitions, for proofs and inner contracts alone: numbers that fit an answer.
-use Rattle.std.specs.Prelude.{List, [], ◌∷◌, ℕ, ◌<◌}
+use Rattle.std.specs.Prelude.{List, [], ◌∷◌, ℕ, ◌<◌, Option, Some, None}
 use Rattle.rfc3339.specs.declared.parse.Instant.{Instant}
-use Rattle.rfc3339.specs.declared.parse.Instant.TheVariants as instant
 
 -- Types that other files explain: `Instant` in rfc3339/specs/Instant.antt.
 
@@ -11,6 +10,6 @@ Fit63 [] = Unit {0}
 Fit63 (v ∷ vs) = (v < 0x8000000000000000) × Fit63 vs
 
 -- the nanoseconds of an instant, or 0
-abbrev pub instant_nanos : Instant → ℕ
-instant_nanos (instant.Date seconds nanos) = nanos
-instant_nanos instant.NoDate = 0
+abbrev pub instant_nanos : Option Instant → ℕ
+instant_nanos (Some i) = i.nanos
+instant_nanos None = 0

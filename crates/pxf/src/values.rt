@@ -100,12 +100,12 @@ pub fn give<T: Values, E: Values + Numbered>(r: Result<T, E>, answer: &mut [i64;
 }
 
 // The values of an instant.
-pub fn of_instant(r: Instant) -> [i64; 6]
+pub fn of_instant(r: Option<Instant>) -> [i64; 6]
     requires { instant_nanos r < 0x8000000000000000 }
     ensures { result ≡ instant_numbers r }
 {
     match r {
-        Instant::Date { seconds, nanos } => [1, seconds, nanos as i64, 0, 0, 0],
-        Instant::NoDate => [0, 0, 0, 0, 0, 0],
+        Some(Instant { seconds, nanos }) => [1, seconds, nanos as i64, 0, 0, 0],
+        None => [0, 0, 0, 0, 0, 0],
     }
 }

@@ -1,6 +1,6 @@
 -- For whoever stores a date that `parse` gives: its seconds lie between those of 0000-01-01T00:00:00+24:60 and 9999-12-31T23:59:59-24:60, and its
 -- nanoseconds below a second. By the bounds of each rule's numbers. Assumes nothing.
-use mathlib.Core.Path.{◌≡◌, refl}
+use mathlib.Core.Path.{◌≡◌}
 use mathlib.Core.Bool.{true, ◌&&◌}
 use mathlib.Core.List.{List}
 use Prim.Native.Nat.{ℕ, zero, suc, ◌+◌, ◌-◌, ◌^◌, ◌≤◌, ◌<◌}
@@ -9,13 +9,12 @@ use lib.Dec.{ltb, le→leb}
 use lib.IntN.{pos, negsuc, ◌-ℤ◌}
 use lib.Signed.{◌≤ℤ◌}
 use Rattle.base.proofs.Tests.{and_left, and_right, by_cases, pick_case}
-use Rattle.rfc3339.specs.Grammar.{parse_grammar, is_at, is_full_date, is_t, hour_end, is_partial_time, secfrac_end, is_offset, is_date_time}
+use Rattle.rfc3339.specs.Grammar.{parse_grammar, is_at, is_full_date, is_t, is_partial_time, secfrac_end, is_offset, is_date_time}
 use Rattle.rfc3339.specs.Instant.{local_seconds, epoch_seconds, seconds_of, secfrac_digits, secfrac_nanos, InRange}
 use Rattle.rfc3339.specs.Helpers.{offset_size, unix_seconds}
 use Rattle.rfc3339.proofs.Days.{epoch_is}
 use Rattle.rfc3339.proofs.Nanos.{nanos_lt}
 use Rattle.rfc3339.proofs.Fields.{local_lt, offset_le, seconds_are}
-use Rattle.rfc3339.proofs.Fractions.{fraction_digits, digits_are}
 
 -- ---- differences of numbers
 difference_high : (a b n : ℕ) → a ≤ b + n → (pos a -ℤ pos b) ≤ℤ pos n
@@ -51,11 +50,6 @@ module _ (s : List ℕ) (e : is_date_time parse_grammar s ≡ true) where
   offset : is_offset parse_grammar s ≡ true
   offset = and_right (is_partial_time parse_grammar s) _ time
 
-  nanos : secfrac_nanos (secfrac_digits s) < 10 ^ 9
-  nanos =
-      rw (← digits_are s (hour_end s) (secfrac_end s) refl refl)
-      (nanos_lt s _ _ (fraction_digits s (hour_end s) (secfrac_end s) refl refl))
-
   pub date_range : InRange (seconds_of s) (secfrac_nanos (secfrac_digits s))
   unfolding unix_seconds
   date_range =
@@ -63,5 +57,5 @@ module _ (s : List ℕ) (e : is_date_time parse_grammar s ≡ true) where
       let o = offset_le s offset in
       let f = epoch_is in
       rw (← seconds_are s offset) (pick_case (λ n. InRange n (secfrac_nanos (secfrac_digits s))) (is_at 45 s (secfrac_end s))
-      (λ _. in_range (local_seconds s + offset_size s) epoch_seconds _ (omega arith) (omega arith) nanos)
-      (λ _. in_range (local_seconds s) (epoch_seconds + offset_size s) _ (omega arith) (omega arith) nanos))
+      (λ _. in_range (local_seconds s + offset_size s) epoch_seconds _ (omega arith) (omega arith) (nanos_lt s))
+      (λ _. in_range (local_seconds s) (epoch_seconds + offset_size s) _ (omega arith) (omega arith) (nanos_lt s)))

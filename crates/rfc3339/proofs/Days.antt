@@ -128,9 +128,6 @@ module _ (y m d : ℕ) (c : CivilDate y m d) where
       sums : (n late month months : ℕ) → months + 306 ≡ late + month → n + 145731 + late + month + d ≡ n + months + (d - 1) + 146038
       sums n late month months e = omega arith
 
-  pub civil_ge : 146038 ≤ civil_days y m d
-  civil_ge = rw civil_sum (omega arith)
-
   pub civil_days_lem : civil_days y m d - 146038 ≡ days_to y m d
   civil_days_lem = rw civil_sum (omega arith)
 

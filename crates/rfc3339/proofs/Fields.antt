@@ -1,26 +1,25 @@
--- For `parse` and Bounds: how large the numbers of each rule are where it holds, and the seconds by the mark of the offset. By the ranges of pairs of
+-- For `full_date`, Steps and Bounds: how large the numbers of each rule are where it holds, and the seconds by the mark of the offset. By the ranges of pairs of
 -- digits, and by the law of days. Assumes nothing.
-use mathlib.Core.Path.{◌≡◌, refl, sym, ◌∙◌}
+use mathlib.Core.Path.{◌≡◌, sym, ◌∙◌}
 use mathlib.Core.Bool.{true, ◌&&◌}
 use mathlib.Core.List.{List, [], ◌∷◌}
 use Prim.Native.Nat.{ℕ, zero, suc, ◌+◌, ◌-◌, ◌*◌, ◌≤◌, ◌<◌, zero-le}
 use native.Mathlib.Nat.{add-zero}
 use native.Mathlib.Omega.{arith}
-use borrow.Author.Tests.{ltb-true, eqb-true, eqb-false}
+use borrow.Author.Tests.{eqb-true, eqb-false, ne_eqb}
 use lib.Dec.{eqb}
 use lib.ListN.{take, get_or}
 use Rattle.base.specs.Bytes.{byte}
-use Rattle.base.proofs.Tests.{and_left, and_right, or_case, by_cases, pick_case}
+use Rattle.base.specs.Classes.{is_digit}
+use Rattle.base.proofs.Tests.{and_left, and_right, and-false, or_case, by_cases, pick_case, digit_range}
 use Rattle.rfc3339.specs.Calendar.{month_lengths, month_length, sum_of, days_of_years, days_of_months, days_to}
-use Rattle.rfc3339.specs.Grammar.{parse_grammar, is_at, is_pair, year_of, month_of, day_of, is_fullyear, is_month, is_full_date, hour_end, hour_of}
+use Rattle.rfc3339.specs.Grammar.{parse_grammar, is_at, is_pair, year_of, month_of, day_of, is_fullyear, is_month, is_full_date, has_two, hour_end, hour_of}
 use Rattle.rfc3339.specs.Grammar.{is_hour, minute_of, second_of, is_minute, is_second, is_partial_time, secfrac_end, offset_hour_of}
-use Rattle.rfc3339.specs.Grammar.{offset_minute_of, is_offset_hour, is_offset_minute, has_sign, is_numoffset, is_offset}
+use Rattle.rfc3339.specs.Grammar.{offset_minute_of, is_offset_hour, is_offset_minute, has_sign, is_numoffset, is_z, is_offset}
 use Rattle.rfc3339.specs.Instant.{local_seconds, epoch_seconds, offset_seconds, seconds_of}
-use Rattle.rfc3339.specs.Helpers.{hour_at, offset_size, unix_seconds}
+use Rattle.rfc3339.specs.Helpers.{offset_size, unix_seconds}
 use Rattle.rfc3339.proofs.Days.{years_closed}
-use Rattle.rfc3339.proofs.Pairs.{pair_low, pair_high, pair_or_next}
-use Rattle.rfc3339.proofs.Times.{hour_is, hour_test, second_test}
-use Rattle.rfc3339.proofs.Offsets.{no_z}
+use Rattle.rfc3339.proofs.Pairs.{pair_low, pair_high, pair_or_next, second_is}
 
 -- ---- full-date
 -- the days before a month and in it are days of the year
@@ -35,13 +34,13 @@ unfolding days_of_years
 years_le y h = omega (arith, years_closed (suc y))
 
 -- 3652424 days lie before 9999-12-31
-last_day : (y m d : ℕ) → y ≤ 9999 → 1 ≤ d → d ≤ month_length y m → days_to y m d < 3652425
+pub last_day : (y m d : ℕ) → y ≤ 9999 → 1 ≤ d → d ≤ month_length y m → days_to y m d ≤ 3652424
 unfolding days_to days_of_months month_length
 last_day y m d h f l = omega (arith, part_le (month_lengths y) (m - 1), years_le y h)
 
-days_lt : (s : List ℕ) → is_full_date s ≡ true → days_to (year_of s) (month_of s) (day_of s) < 3652425
+days_le : (s : List ℕ) → is_full_date s ≡ true → days_to (year_of s) (month_of s) (day_of s) ≤ 3652424
 unfolding is_full_date is_fullyear year_of
-days_lt s e =
+days_le s e =
     let a = (is_fullyear s && is_at 45 s 4) && (is_month s && is_at 45 s 7) in
     let y = and_left (is_fullyear s) _ (and_left (is_fullyear s && is_at 45 s 4) _ (and_left a _ e)) in
     let c = pair_high 0 99 s 0 (and_left (is_pair 0 99 s 0) _ y) in
@@ -50,6 +49,12 @@ days_lt s e =
     last_day (year_of s) (month_of s) (day_of s) (omega arith) (pair_low 1 _ s 8 d) (pair_high 1 _ s 8 d)
 
 -- ---- partial-time
+hour_le : (s : List ℕ) → is_hour parse_grammar s ≡ true → hour_of s ≤ 23
+unfolding is_hour hour_of
+hour_le s e =
+    by_cases (has_two s) (λ d. rw d (pair_high 0 23 s 11 (rw d at e)))
+    (λ d. rw d (omega (arith, digit_range (byte s 11) (and_left (is_digit (byte s 11)) true (rw d at e)))))
+
 time_lt : (s : List ℕ) → is_partial_time parse_grammar s ≡ true → hour_of s * 3600 + minute_of s * 60 + second_of s < 86400
 unfolding is_partial_time
 time_lt s e =
@@ -57,17 +62,16 @@ time_lt s e =
     let h = is_hour parse_grammar s && is_at 58 s i in
     let m = is_minute s && is_at 58 s (i + 3) in
     let a = and_left (h && m) _ e in
-    let n = ltb-true (hour_at s) 24 (hour_test s ∙ and_left (is_hour parse_grammar s) _ (and_left h _ a)) in
     let k = and_left (is_second parse_grammar s) _ (and_right (h && m) _ e) in
-    let hour = hour_is s (hour_at s) refl (omega arith) in
+    let hour = hour_le s (and_left (is_hour parse_grammar s) _ (and_left h _ a)) in
     let minute = pair_high 0 59 s (i + 1) (and_left (is_minute s) _ (and_right h _ a)) in
-    let second = pair_high 0 59 s (i + 4) (sym (second_test s) ∙ k) in
+    let second = pair_high 0 59 s (i + 4) (sym (second_is s) ∙ k) in
     omega arith
 
 -- the two together
 pub local_lt : (s : List ℕ) → is_full_date s ≡ true → is_partial_time parse_grammar s ≡ true → local_seconds s < 315569520000
 unfolding local_seconds
-local_lt s d t = omega (arith, days_lt s d, time_lt s t)
+local_lt s d t = omega (arith, days_le s d, time_lt s t)
 
 -- ---- time-offset
 record Numoffset (s : List ℕ) : Type 0 where
@@ -95,7 +99,8 @@ module _ (s : List ℕ) (e : is_offset parse_grammar s ≡ true) where
 
   -- after another mark than "Z"
   other_mark : (mark ≡ 90 → ⊥) → Numoffset s
-  other_mark n = numoffset s (rw (no_z s (secfrac_end s) mark refl refl n) at e)
+  unfolding is_z
+  other_mark n = numoffset s (rw (ne_eqb mark 90 n, and-false (eqb mark 122)) at e)
 
   pub offset_le : offset_size s ≤ 90000
   offset_le =

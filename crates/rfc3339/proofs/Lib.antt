@@ -1,12 +1,9 @@
 pub mod Days
 mod Seconds
 mod Pairs
+mod Places
 mod Nanos
-mod Times
-mod Fractions
-mod Dates
-mod Offsets
 mod Fields
-mod Parses
+mod Steps
 pub mod Bounds
 pub mod Partings

@@ -17,8 +17,11 @@ use Rattle.base.specs.Bytes.{byte}
 use Rattle.base.specs.Classes.{is_digit}
 use Rattle.base.specs.Digits.{value_from, value_of}
 use Rattle.base.proofs.Tests.{by_cases, digit_range}
-use Rattle.rfc3339.specs.Instant.{secfrac_nanos}
-use Rattle.rfc3339.specs.Helpers.{FractionDigits}
+use Rattle.base.specs.Digits.{in_digits}
+use Rattle.base.proofs.Reaches.{reach_le, reach_all}
+use Rattle.rfc3339.specs.Grammar.{secfrac_place, has_secfrac, secfrac_end}
+use Rattle.rfc3339.specs.Instant.{secfrac_digits, secfrac_nanos}
+use Rattle.rfc3339.proofs.Places.{digit_in}
 
 ten_pos : (n : ℕ) → 0 < 10 ^ n
 ten_pos n = one-le-pow n 10 (lit< tt)
@@ -111,64 +114,68 @@ module _ (k : ℕ) (l : List ℕ) where
       let p : 10 ^ (k + 1 - length l) ≡ 10 ^ (k - length l) * 10 = ap (λ (i : ℕ). 10 ^ i) (omega arith) ∙ pow-add 10 (k - length l) 1 in
       rw (p, take_all k l h, take_all (k + 1) l (omega arith)) (omega arith)
 
--- ---- the loop of `nanos`
-abbrev between : List ℕ → ℕ → ℕ → List ℕ
-between s start end = take (end - start) (drop start s)
+-- ---- the digits of a run's fraction
+module _ (s : List ℕ) where
+  has_digits : (i : ℕ) → secfrac_place s < i → i < secfrac_end s → has_secfrac s ≡ true
+  unfolding secfrac_end
+  has_digits i g h = by_cases (has_secfrac s) (λ e. e) (λ e. let f : secfrac_end s ≡ secfrac_place s = rw e in absurd (omega arith))
 
--- n is the number of the first k places
-pub record Places (s : List ℕ) (start end n k : ℕ) : Type 0 where
-  pub count : k ≤ 9
-  pub number : n ≡ front k (between s start end)
+  pub fraction_in : (i : ℕ) → secfrac_place s < i → i < secfrac_end s → i < length s
+  unfolding secfrac_end
+  fraction_in i g h =
+      let e = has_digits i g h in
+      omega (arith, rw e at h, reach_le in_digits s (secfrac_place s + 1) (omega (arith, digit_in s e)))
 
-module _ (s : List ℕ) (start end : ℕ) (f : FractionDigits s start end) where
-  between_length : length (between s start end) ≡ end - start
-  between_length =
-      by_cases (ltb start end) (λ e. simp (length-take, length-drop) (omega (arith, f.inside (ltb-true start end e))))
-      (λ e. simp (length-take, length-drop) (omega (arith, ltb-false start end e)))
+  pub fraction_digit : (i : ℕ) → secfrac_place s < i → i < secfrac_end s → is_digit (byte s i) ≡ true
+  unfolding secfrac_end
+  fraction_digit i g h = reach_all in_digits s (secfrac_place s + 1) i (omega arith) (rw (has_digits i g h) at h)
 
-  between_byte : (j : ℕ) → j < end - start → byte (between s start end) j ≡ byte s (start + j)
-  between_byte j h = rw (get_or-take, get_or-drop)
+  fraction_length : length (secfrac_digits s) ≡ secfrac_end s - (secfrac_place s + 1)
+  unfolding secfrac_digits
+  fraction_length =
+      by_cases (ltb (secfrac_place s + 1) (secfrac_end s))
+      (λ e. let l = ltb-true _ _ e in simp (length-take, length-drop) (omega (arith, fraction_in (secfrac_end s - 1) (omega arith) (omega arith))))
+      (λ e. simp (length-take, length-drop) (omega (arith, ltb-false _ _ e)))
 
-  between_digits : Digits (between s start end)
-  between_digits j h =
-      let l : j < end - start = omega (arith, between_length) in
-      rw (between_byte j l) (f.digits (start + j) (omega arith) (omega arith))
+  fraction_byte : (j : ℕ) → secfrac_place s + 1 + j < secfrac_end s → byte (secfrac_digits s) j ≡ byte s (secfrac_place s + 1 + j)
+  unfolding secfrac_digits
+  fraction_byte j h = let l : j < secfrac_end s - (secfrac_place s + 1) = omega arith in rw (get_or-take, get_or-drop)
 
-  -- the digit that the code reads
-  module _ (k : ℕ) (h : start + k < end) where
-    pub digit_in : start + k < length s
-    digit_in = omega (arith, f.inside (omega arith))
+  fraction_digits : Digits (secfrac_digits s)
+  fraction_digits j h =
+      let l : secfrac_place s + 1 + j < secfrac_end s = omega (arith, fraction_length) in
+      rw (fraction_byte j l) (fraction_digit _ (omega arith) l)
 
-    pub digit_here : (48 ≤ byte s (start + k)) × (byte s (start + k) ≤ 57)
-    digit_here =
-        let e = f.digits (start + k) (omega arith) h in
-        digit_range (byte s (start + k)) e
-
-  pub places_none : Places s start end 0 0
-  unfolding value_from
-  places_none = record { count = zero-le; number = omega arith }
-
-  module _ (n k : ℕ) (r : Places s start end n k) where
-    pub places_small : n < 10 ^ 9
-    places_small =
-        let p : 10 ^ k ≤ 10 ^ 9 = pow-le-pow_right (lit< tt) r.count in
-        rw r.number (lt_of_lt_of_le (front_lt k (between s start end) between_digits) p)
-
-    pub places_digit : k < 9 → start + k < end → Places s start end (n * 10 + (byte s (start + k) - 48)) (k + 1)
-    places_digit h l = record {
-      count = omega arith;
-      number = rw (front_digit k (between s start end) (omega (arith, between_length)), between_byte k (omega arith), ← r.number);
-    }
-
-    pub places_zero : k < 9 → end ≤ start + k → Places s start end (n * 10) (k + 1)
-    places_zero h l = record { count = omega arith; number = rw (front_zero k (between s start end) (omega (arith, between_length)), ← r.number) }
-
-    pub places_all : 9 ≤ k → n ≡ secfrac_nanos (between s start end)
-    unfolding secfrac_nanos
-    places_all h =
-        let e : k ≡ 9 = omega arith in
-        rw e at (r.number ∙ front_is k (between s start end) between_digits)
-
-  pub nanos_lt : secfrac_nanos (between s start end) < 10 ^ 9
+  pub nanos_lt : secfrac_nanos (secfrac_digits s) < 10 ^ 9
   unfolding secfrac_nanos
-  nanos_lt = rw (← front_is 9 (between s start end) between_digits) (front_lt 9 (between s start end) between_digits)
+  nanos_lt = rw (← front_is 9 (secfrac_digits s) fraction_digits) (front_lt 9 (secfrac_digits s) fraction_digits)
+
+-- ---- the loop of `nanos`: n is the number of the first k places
+pub record Places (s : List ℕ) (n k : ℕ) : Type 0 where
+  pub number : n ≡ front k (secfrac_digits s)
+  pub small : n < 10 ^ 9
+
+module _ (s : List ℕ) where
+  pub places_none : Places s 0 0
+  unfolding value_from
+  places_none = record { number = omega arith; small = omega arith }
+
+  module _ (n k : ℕ) (r : Places s n k) where
+    places_next : k < 9 → (m : ℕ) → front (k + 1) (secfrac_digits s) ≡ m → Places s m (k + 1)
+    places_next h m e =
+        let l : k + 1 ≤ 9 = omega arith in
+        record {
+          number = sym e;
+          small = rw (← e) (lt_of_lt_of_le (front_lt (k + 1) (secfrac_digits s) (fraction_digits s)) (pow-le-pow_right (lit< tt) l));
+        }
+
+    pub places_digit : k < 9 → (i : ℕ) → i ≡ secfrac_place s + 1 + k → i < secfrac_end s → Places s (n * 10 + (byte s i - 48)) (k + 1)
+    places_digit h i q l =
+        places_next h _ (rw (q, ← fraction_byte s k (omega arith), r.number) (front_digit k (secfrac_digits s) (omega (arith, fraction_length s))))
+
+    pub places_zero : k < 9 → secfrac_end s ≤ secfrac_place s + 1 + k → Places s (n * 10) (k + 1)
+    places_zero h l = places_next h _ (rw r.number (front_zero k (secfrac_digits s) (omega (arith, fraction_length s))))
+
+    pub places_all : k ≡ 9 → n ≡ secfrac_nanos (secfrac_digits s)
+    unfolding secfrac_nanos
+    places_all e = rw e at (r.number ∙ front_is k (secfrac_digits s) (fraction_digits s))

@@ -8,8 +8,8 @@ use Prim.Native.Char.{code}
 use native.Mathlib.Omega.{arith}
 use borrow.Author.Tests.{eqb-true}
 use lib.Dec.{eqb}
-use lib.IntN.{ℤ}
 use lib.ListN.{length}
+use Rattle.std.specs.Prelude.{Some, None}
 use Rattle.base.specs.Choice.{pick}
 use Rattle.base.specs.Bytes.{byte, within}
 use Rattle.base.specs.Classes.{is_digit}
@@ -20,7 +20,7 @@ use Rattle.rfc3339.specs.Grammar.{has_secfrac, has_comma, secfrac_end, is_secfra
 use Rattle.rfc3339.specs.Grammar.{is_numoffset, is_z, is_offset, is_date_time}
 use Rattle.rfc3339.specs.Instant.{date_by}
 use Rattle.rfc3339.specs.Partings.{uses, partings, used_of, used, takes, widest, PartingsTell}
-use Rattle.rfc3339.specs.declared.parse.Instant.TheVariants as instant
+use Rattle.rfc3339.specs.declared.parse.Instant.{Instant}
 
 -- ---- algebra of tests
 
@@ -165,15 +165,15 @@ module _ (g : Grammar) (s : List ℕ) where
             and-true z,
           )
 
-  by_used : date_by g s ≡ pick (takes g (used s)) (date_by widest s) instant.NoDate
+  by_used : date_by g s ≡ pick (takes g (used s)) (date_by widest s) None
   unfolding date_by
   by_used =
       by_cases (takes g (used s)) (λ e. rw (date_time_rule, e, and-true (is_date_time widest s)))
       (λ e. rw (date_time_rule, e, and-false (is_date_time widest s)))
 
   -- of a date by the grammar: it takes what the run uses, and the date is that of the widest
-  date_is : (x : ℤ) (m : ℕ) → date_by g s ≡ instant.Date x m → (takes g (used s) ≡ true) × (date_by widest s ≡ instant.Date x m)
-  date_is x m e = pick_first (takes g (used s)) (λ q. zero_one cc) (sym by_used ∙ e)
+  date_is : (i : Instant) → date_by g s ≡ Some i → (takes g (used s) ≡ true) × (date_by widest s ≡ Some i)
+  date_is i e = pick_first (takes g (used s)) (λ q. zero_one cc) (sym by_used ∙ e)
 
 opposite : (p : Parting) → rfc_grammar p ≡ not (parse_grammar p)
 opposite hour_of_one_digit = refl
@@ -198,9 +198,9 @@ partings_tell =
       by_used = by_used;
       complete = λ s e. rw (by_used rfc_grammar s, by_used parse_grammar s, e);
       opposite = opposite;
-      exact = λ s x y m n r w. none_common (used s) (date_is rfc_grammar s x m r).0 (date_is parse_grammar s y n w).0;
-      same = λ s x y m n r w. same_date (sym (date_is rfc_grammar s x m r).1 ∙ (date_is parse_grammar s y n w).1);
+      exact = λ s i j r w. none_common (used s) (date_is rfc_grammar s i r).0 (date_is parse_grammar s j w).0;
+      same = λ s i j r w. some_same (sym (date_is rfc_grammar s i r).1 ∙ (date_is parse_grammar s j w).1);
     }
   where
-    same_date : {x y : ℤ} {m n : ℕ} → instant.Date x m ≡ instant.Date y n → (x ≡ y) × (m ≡ n)
-    same_date e = (cc, cc)
+    some_same : {i j : Instant} → Some i ≡ Some j → i ≡ j
+    some_same e = cc

@@ -32,22 +32,16 @@ module _ (a b : ℕ) (h : a < 0x8000000000000000) (k : b < 0x8000000000000000) w
 
 module _ (local offset : ℕ) (f : SecondsFit local offset) where
   -- west of UTC the offset is added
-  pub west_fits : SFits w64 (to_z w64 (local + offset) -ℤ pos 62167219200)
-  west_fits = minus_fits (local + offset) 62167219200 (omega arith) (omega arith)
-
   pub west_is : to_z w64 (of_z w64 (to_z w64 (local + offset) -ℤ pos 62167219200)) ≡ unix_seconds local offset true
   unfolding unix_seconds
   west_is = rw epoch_is (minus_is (local + offset) 62167219200 (omega arith) (omega arith))
 
   -- elsewhere it is taken off
-  pub epoch_fits : SFits w64 (to_z w64 local -ℤ pos 62167219200)
-  epoch_fits = minus_fits local 62167219200 (omega arith) (omega arith)
-
   east_difference : to_z w64 (of_z w64 (to_z w64 local -ℤ pos 62167219200)) -ℤ to_z w64 offset ≡ pos local -ℤ pos (62167219200 + offset)
   east_difference =
       rw (minus_is local 62167219200 (omega arith) (omega arith), signed offset (omega arith)) (difference_less local 62167219200 offset)
 
-  pub east_fits : SFits w64 (to_z w64 (of_z w64 (to_z w64 local -ℤ pos 62167219200)) -ℤ to_z w64 offset)
+  east_fits : SFits w64 (to_z w64 (of_z w64 (to_z w64 local -ℤ pos 62167219200)) -ℤ to_z w64 offset)
   east_fits = rw east_difference (difference_fits local (62167219200 + offset) (omega arith) (omega arith))
 
   pub east_is : to_z w64 (of_z w64 (to_z w64 (of_z w64 (to_z w64 local -ℤ pos 62167219200)) -ℤ to_z w64 offset)) ≡ unix_seconds local offset false

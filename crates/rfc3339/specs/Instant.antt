@@ -1,5 +1,6 @@
 -- The instant that a date-time names: whole seconds from 1970-01-01T00:00:00Z and nanoseconds; document 02, #101.
-use Rattle.std.specs.Prelude.{Bool, true, false, List, ℕ, ◌+◌, ◌-◌, ◌*◌, ◌/◌, ◌^◌, ◌<◌, ℤ, pos, neg_ℤ, ◌-ℤ◌, length, take, drop, ◌≤ℤ◌}
+use Rattle.std.specs.Prelude.{Bool, List, ℕ, ◌+◌, ◌-◌, ◌*◌, ◌/◌, ◌^◌, ◌<◌, ℤ, pos, neg_ℤ, ◌-ℤ◌, length, take, drop, ◌≤ℤ◌}
+use Rattle.std.specs.Prelude.{Option, Some, None, is_some}
 use Prim.Native.Char.{code}
 use Rattle.base.specs.Choice.{pick}
 use Rattle.base.specs.Digits.{value_of}
@@ -7,9 +8,8 @@ use Rattle.rfc3339.specs.Calendar.{days_to}
 use Rattle.rfc3339.specs.Grammar.{Grammar, parse_grammar, is_at, year_of, month_of, day_of, hour_of, minute_of, second_of, secfrac_place, secfrac_end}
 use Rattle.rfc3339.specs.Grammar.{offset_hour_of, offset_minute_of, is_date_time}
 use Rattle.rfc3339.specs.declared.parse.Instant.{Instant}
-use Rattle.rfc3339.specs.declared.parse.Instant.TheVariants as instant
 
--- Types of the code (src/parse.rt). `Instant`, what a run is as a date-time: `Date seconds nanos` or `NoDate`.
+-- Types of the code (src/parse.rt). `Instant`: the seconds and the nanoseconds of a date-time.
 
 -- the seconds of a day, an hour and a minute
 abbrev pub day_seconds : ℕ
@@ -46,18 +46,21 @@ secfrac_digits s = take (secfrac_end s - (secfrac_place s + 1)) (drop (secfrac_p
 unfoldable pub secfrac_nanos : List ℕ → ℕ
 secfrac_nanos digits = value_of digits * 10 ^ 9 / 10 ^ length digits
 
+-- the instant of a run
+abbrev pub instant_of : List ℕ → Instant
+instant_of s = record { seconds = seconds_of s; nanos = secfrac_nanos (secfrac_digits s) }
+
 -- what a run is by a grammar
-unfoldable pub date_by : Grammar → List ℕ → Instant
-date_by g s = pick (is_date_time g s) (instant.Date (seconds_of s) (secfrac_nanos (secfrac_digits s))) instant.NoDate
+unfoldable pub date_by : Grammar → List ℕ → Option Instant
+date_by g s = pick (is_date_time g s) (Some (instant_of s)) None
 
 -- document 02, #101: "whole seconds from 1970-01-01T00:00:00Z and the nanoseconds as `parse` gives them", "no date" for a bad run
-abbrev pub date_of : List ℕ → Instant
+abbrev pub date_of : List ℕ → Option Instant
 date_of s = date_by parse_grammar s
 
 -- whether a run is a date
-abbrev pub is_date : Instant → Bool
-is_date (instant.Date seconds nanos) = true
-is_date instant.NoDate = false
+abbrev pub is_date : Option Instant → Bool
+is_date r = is_some r
 
 -- where the dates that `parse` takes lie: from 0000-01-01T00:00:00+24:60 on to 9999-12-31T23:59:59.999999999-24:60
 pub record InRange (seconds : ℤ) (nanos : ℕ) : Type 0 where

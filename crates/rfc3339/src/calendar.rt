@@ -10,6 +10,7 @@ pub const MONTH_LENGTHS: [[u8; 12]; 2] = [
 ];
 
 // Whether a year is a leap year.
+#[tactic(auto, unfolding(crate::specs::Calendar::is_leap))]
 fn is_leap(year: usize) -> bool
     ensures { result ≡ is_leap year }
 {
@@ -17,15 +18,18 @@ fn is_leap(year: usize) -> bool
 }
 
 // The length of a month.
+#[tactic(auto, using(crate::proofs::Days::row_is, crate::proofs::Days::row_le), unfolding(crate::specs::Calendar::month_length))]
 pub fn days_in_month(year: usize, month: usize) -> usize
     requires { (1 ≤ month) × (month ≤ 12) }
-    ensures { result ≡ month_length year month }
+    ensures days { result ≡ month_length year month }
+    ensures at_most { result ≤ 31 }
 {
     MONTH_LENGTHS[is_leap(year) as usize][month - 1] as usize
 }
 
 // The days from 0000-01-01 to a date. Years begin in March here, so that the leap day is the last, and 400 years are 146,097 days; they are
 // counted from March of the year -400 on, 146,037 days before 0000-01-01.
+#[tactic(auto, using(crate::proofs::Days::civil_days_lem))]
 pub fn days_from_civil(y: usize, m: usize, d: usize) -> usize
     requires { CivilDate y m d }
     ensures { result ≡ days_to y m d }

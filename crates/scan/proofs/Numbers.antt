@@ -28,7 +28,6 @@ use Rattle.lexeme.proofs.Within.{extent_within, illegal_within, precise_within, 
 use Rattle.go_duration.specs.Parse.{unsigned, parse_of}
 use Rattle.go_duration.proofs.Durations.{sent_digit, sent_minus}
 use Rattle.rfc3339.specs.Instant.{date_of, is_date}
-use Rattle.rfc3339.specs.declared.parse.Instant.TheVariants as instant
 use Rattle.rfc3339.specs.declared.parse.Instant.{Instant}
 use Rattle.scan.specs.Run.{in_stamp, unit_piece}
 use Rattle.scan.specs.Number.{lex_precision, past_fraction, at_duration_unit, duration_by, lex_duration, goes_on_float, number_kind, value_end}
@@ -167,9 +166,9 @@ module _ (s : List ℕ) where
       (λ e. precision_on_line (number_kind x) (value_end s f x) (number_plain x) (omega (arith, begins_some b, v.ge)) (goes_then s g v))
 
   -- a timestamp's run, n bytes, be it a date or none
-  run_scanned : (i : Instant) (n : ℕ) → date_of (take n s) ≡ i → Ends s n → Scanned s (timestamp_by i n)
+  run_scanned : (r : Option Instant) (n : ℕ) → date_of (take n s) ≡ r → Ends s n → Scanned s (timestamp_by r n)
   unfolding kind_number
-  run_scanned (instant.Date z k) n d e =
+  run_scanned (Some i) n d e =
       record {
         within = extent_within s K.Timestamp n e.some e.inside 0 n 0 (omega arith) (omega arith);
         not_eof = λ q. absurd (omega (arith, ap kind_number q));
@@ -178,14 +177,14 @@ module _ (s : List ℕ) where
         duration = λ q. absurd (omega (arith, ap kind_number q));
         timestamp = record { date = λ _. ap is_date d; none = λ q. absurd (omega arith) };
       }
-  run_scanned instant.NoDate n d e =
+  run_scanned None n d e =
       plain_scanned (plain K.Illegal refl)
       (illegal_within s reasons.bad_timestamp 0 n 0 e.some e.inside (omega arith) (omega arith) (λ _. omega arith)) e.between
       (record { date = λ q. absurd (omega arith); none = λ _. ap is_date d })
 
-  run_flat : (i : Instant) (n : ℕ) → Flat s n → Flat s (timestamp_by i n).len
-  run_flat (instant.Date z k) n f = f
-  run_flat instant.NoDate n f = f
+  run_flat : (r : Option Instant) (n : ℕ) → Flat s n → Flat s (timestamp_by r n).len
+  run_flat (Some i) n f = f
+  run_flat None n f = f
 
   -- a timestamp whose first digits end at n
   timestamp_on_line : (n : ℕ) → 0 < n → Goes s 0 n → OnLine s (lex_timestamp s n)

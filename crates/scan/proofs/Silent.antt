@@ -15,7 +15,6 @@ use Rattle.base.proofs.Tests.{pick_case}
 use Rattle.go_duration.specs.Parse.{parse_of}
 use Rattle.rfc3339.specs.Instant.{date_of}
 use Rattle.rfc3339.specs.declared.parse.Instant.{Instant}
-use Rattle.rfc3339.specs.declared.parse.Instant.TheVariants as instant
 use Rattle.token.specs.declared.kind.TokenKind.{TokenKind}
 use Rattle.lexeme.specs.declared.Lexeme.{Lexeme}
 use Rattle.scan.specs.Run.{in_stamp, in_name, unit_piece}
@@ -69,9 +68,9 @@ module _ (s : List ℕ) where
       (λ _. duration_silent (parse_of (take (past unit_piece s f) s)) (past unit_piece s f))
       (λ _. precision_silent (number_kind float) (value_end s f float))
 
-  date_silent : (i : Instant) (n : ℕ) → (timestamp_by i n).reports ≡ 0
-  date_silent (instant.Date z k) n = refl
-  date_silent instant.NoDate n = refl
+  date_silent : (r : Option Instant) (n : ℕ) → (timestamp_by r n).reports ≡ 0
+  date_silent (Some i) n = refl
+  date_silent None n = refl
 
   timestamp_silent : (n : ℕ) → (lex_timestamp s n).reports ≡ 0
   unfolding lex_timestamp

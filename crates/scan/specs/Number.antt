@@ -9,7 +9,6 @@ use Rattle.base.specs.Runs.{reach, past}
 use Rattle.go_duration.specs.Parse.{parse_of}
 use Rattle.rfc3339.specs.Instant.{date_of}
 use Rattle.rfc3339.specs.declared.parse.Instant.{Instant}
-use Rattle.rfc3339.specs.declared.parse.Instant.TheVariants as instant
 use Rattle.token.specs.Reason as reasons
 use Rattle.token.specs.declared.kind.TokenKind.{TokenKind}
 use Rattle.token.specs.declared.kind.TokenKind.TheVariants as K
@@ -73,9 +72,9 @@ lex_tail s n f =
     pick (at_duration_unit (byte s f) (byte s (f + 1))) (lex_duration s f) (lex_precision (number_kind float) s (value_end s f float))
 
 -- a run of n bytes that `rfc3339::parse` takes is a Timestamp; document 02, #101: "a bad one is Illegal, reason 21, in both modes"
-abbrev pub timestamp_by : Instant → ℕ → Lexeme
-timestamp_by (instant.Date z k) n = whole K.Timestamp n
-timestamp_by instant.NoDate n = illegal reasons.bad_timestamp 0 n
+abbrev pub timestamp_by : Option Instant → ℕ → Lexeme
+timestamp_by (Some i) n = whole K.Timestamp n
+timestamp_by None n = illegal reasons.bad_timestamp 0 n
 
 -- `lex_timestamp`, the first digits ending at n: the run is judged by itself
 unfoldable pub lex_timestamp : List ℕ → ℕ → Lexeme

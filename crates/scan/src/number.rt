@@ -10,7 +10,6 @@ use base::peek;
 use base::runs::reach_run;
 use go_duration::parse::parse;
 use lexeme::Lexeme;
-use rfc3339::parse::Instant;
 use token::kind::TokenKind;
 use token::reason;
 
@@ -143,8 +142,8 @@ fn lex_timestamp(s: &[u8], n: usize) -> Lexeme
 {
     let len = reach_run(Stamp, s, n);
     match rfc3339::parse::parse(&s[..len]) {
-        Instant::Date { .. } => Lexeme::whole(TokenKind::Timestamp, len),
-        Instant::NoDate => Lexeme::illegal(reason::BAD_TIMESTAMP, 0, len),
+        Some(_) => Lexeme::whole(TokenKind::Timestamp, len),
+        None => Lexeme::illegal(reason::BAD_TIMESTAMP, 0, len),
     }
 }
 

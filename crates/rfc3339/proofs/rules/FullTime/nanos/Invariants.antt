@@ -1,10 +1,6 @@
 -- `nanos` is `secfrac_nanos`: after k turns its number is that of the first k digits, with zeros after fewer. Assumes nothing.
-use Prim.Native.Nat.{◌-◌}
 use Rattle.rfc3339.proofs.Nanos.{Places}
-use Rattle.rfc3339.proofs.parse.nanos.Given as goal
+use Rattle.rfc3339.proofs.rules.FullTime.nanos.Given as goal
 
 abbrev pub invariant-loop-k : goal.invariant-loop-k
-invariant-loop-k l = Places l.s l.start l.end l.n l.k
-
-abbrev pub decreases-loop-k : goal.decreases-loop-k
-decreases-loop-k l = 9 - l.k
+invariant-loop-k l = Places l.self.run.now l.n l.k

@@ -13,12 +13,12 @@ use Rattle.base.proofs.Stores.{sets_append, overlaid}
 use Rattle.token.specs.Layout.{record_width}
 use Rattle.token_file.specs.Rules.{row_at, rows_of, largest_column, some_above}
 use Rattle.token_file.specs.Format.{version1, row_width, file_width, header, header_width, rows_bytes, file_of}
-use Rattle.token_file.specs.Fits.{all_natural, CheckedRecords}
+use Rattle.token_file.specs.Fits.{CheckedRecords}
 use Rattle.token_file.specs.Calls.{records_ok, write_answer, WritesFile}
 use Rattle.token_file.specs.declared.layout.Layout.{Layout}
 use Rattle.token_file.specs.declared.write.WriteRefusal.TheVariants as write
 use Rattle.token_file.proofs.Frames.{header_length, file_length}
-use Rattle.token_file.proofs.Pieces.{rows_length, rows_of_chunks, natural_chunks, chunks_length}
+use Rattle.token_file.proofs.Pieces.{rows_length, rows_of_chunks, chunks_length}
 use Rattle.token_file.proofs.RulesPlain.{records_plain}
 
 -- nine bytes, and sixteen for each token
@@ -34,9 +34,6 @@ module _ {records : List ℤ} {count : ℕ} {checked : List (List ℤ)} (k : Che
 
   pub checked_length : length checked ≡ count
   checked_length = rw k.are (chunks_length count records)
-
-  pub checked_natural : all_natural checked ≡ true
-  checked_natural = rw k.are (natural_chunks count records ∙ (records_plain records count k.rules).natural)
 
   -- the slice has them all
   pub checked_slice : count * record_width ≤ length records

@@ -1,16 +1,15 @@
 // The writer of token files.
-ghost use Rattle.std.specs.Prelude.{◌≡◌, true, ◌+◌, ◌≤◌, length, map};
+ghost use Rattle.std.specs.Prelude.{◌≡◌, ◌+◌, ◌≤◌, length, map};
 ghost use Rattle.std.proofs.lemmas.List.Edits.{sets};
 ghost use Rattle.token_file.specs.Rules.{row_at};
 ghost use Rattle.token_file.specs.Format.{header, header_width, row_bytes, rows_bytes, row_width, file_width};
-ghost use Rattle.token_file.specs.Fits.{all_natural};
 ghost use Rattle.token_file.specs.Calls.{WritesFile, write_refusal_number};
 
 use crate::layout::{HEADER_WIDTH, Layout};
+use crate::number;
+use crate::records::Records;
 use crate::row::Row;
-use crate::{number, records};
 use base::answer::Numbered;
-use token::layout::RECORD_WIDTH;
 
 // Why no token file is written.
 #[derive(Clone, Copy, PartialEq, Eq, Debug)]
@@ -63,17 +62,12 @@ fn put_row(out: &mut [u8], at: usize, y: Layout, row: Row)
 }
 
 // Writes the rows of the records after the header.
-fn put_rows(out: &mut [u8], y: Layout, records: &[[i64; RECORD_WIDTH]])
-    requires room { file_width y (length records.now) ≤ length out.old }
-    requires natural { all_natural records.now ≡ true }
-    ensures { out.new ≡ sets out.old header_width (rows_bytes y (map row_at records.now)) }
+fn put_rows(out: &mut [u8], y: Layout, records: Records)
+    requires { file_width y (length records.all.now) ≤ length out.old }
+    ensures { out.new ≡ sets out.old header_width (rows_bytes y (map row_at records.entry.all.now)) }
 {
-    for (i, record) in records.iter().enumerate() {
-        // No number is below 0, since the records are checked.
-        let Ok(row) = Row::try_from(record) else {
-            unreachable!();
-        };
-        put_row(out, y.file_width(i), y, row);
+    for i in 0..records.count() {
+        put_row(out, y.file_width(i), y, records.row(i));
     }
 }
 
@@ -85,10 +79,10 @@ pub fn write_token_file(
 ) -> Result<usize, WriteRefusal>
     ensures { WritesFile records.now count out.old result out.new }
 {
-    let Some(records) = records::checked(records, count) else {
+    let Some(records) = Records::parse(records, count) else {
         return Err(WriteRefusal::BadRecords);
     };
-    if records::some_long_column(records) {
+    if records.some_long_column() {
         return Err(WriteRefusal::LongColumn);
     }
     let y = Layout::version1();

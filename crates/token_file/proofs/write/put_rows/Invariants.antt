@@ -8,5 +8,5 @@ use Rattle.token_file.proofs.write.put_rows.Given as goal
 
 abbrev pub invariant-loop-i : goal.invariant-loop-i
 invariant-loop-i l =
-    let rs = map row_at l.records in
+    let rs = map row_at l.records.all.now in
     Putting l.y rs l.out l.i (sets l.initial.out header_width (rows_bytes l.y rs))

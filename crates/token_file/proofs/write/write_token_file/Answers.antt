@@ -1,7 +1,7 @@
 -- `write_token_file` answers as `write_answer` says and leaves the buffer that it says: a law for each answer. Assumes nothing.
 use mathlib.Core.Path.{sym, ◌∙◌}
 use native.Mathlib.Omega.{arith}
-use Rattle.token_file.proofs.Writing.{width1, checked_length, checked_natural, checked_slice, write_bad, write_long, write_no_room, write_all}
+use Rattle.token_file.proofs.Writing.{width1, checked_length, checked_slice, write_bad, write_long, write_no_room, write_all}
 use Rattle.token_file.proofs.write.write_token_file.Goals as goal
 
 pub returns-in_default : goal.returns-in_default
@@ -21,12 +21,9 @@ returns-then-out-size c =
 pub put_header-requires : goal.put_header-requires
 put_header-requires c = omega (arith, width1 c.args.count c.version1-y.ensures, c.file_width-size.ensures, c.if-out-size.false)
 
-pub put_rows-requires-clause-room : goal.put_rows-requires-clause-room
-put_rows-requires-clause-room c =
+pub put_rows-requires : goal.put_rows-requires
+put_rows-requires c =
     rw (checked_length c.in-Some.ensures) (omega (arith, c.put_header.auto.out, c.file_width-size.ensures, c.if-out-size.false))
-
-pub put_rows-requires-clause-natural : goal.put_rows-requires-clause-natural
-put_rows-requires-clause-natural c = checked_natural c.in-Some.ensures
 
 pub returns : goal.returns
 returns c =

@@ -18,7 +18,7 @@ use Rattle.base.specs.Blocks.{all_pass}
 use Rattle.base.proofs.Tests.{by_cases, and_left, and_right, and-true, and_assoc, pick_case}
 use Rattle.base64_lenient.specs.Rfc4648.{Alphabet, standard, url_safe}
 use Rattle.base64_lenient.specs.Lenient.{is_line_break, is_pad, is_in}
-use Rattle.base64_lenient.specs.Helpers.{in_both, as_bits, Bits, alphabets_of, characters_seen, nothing_seen, seen_one, seen_all, judged_seen, CanSee, SeenTo}
+use Rattle.base64_lenient.specs.Helpers.{in_both, as_bits, Bits, alphabets_of, characters_seen, seen_one, seen_all, judged_seen, SeenTo}
 use Rattle.base64_lenient.specs.declared.judge.Seen.{Seen}
 use Rattle.base64_lenient.proofs.Characters.{in_character}
 use Rattle.base64_lenient.proofs.AlphabetTests.{bits_shared}
@@ -114,10 +114,6 @@ pub record Going (s : List ℕ) (w₀ w : Seen) (i : ℕ) : Type 0 where
   pub pads : w.pads ≤ w₀.pads + i
 
 module _ (s : List ℕ) (w₀ w : Seen) (i : ℕ) (u : Going s w₀ w i) where
-  pub going_room : CanSee w₀ (length s) → i < length s → CanSee w 1
-  going_room g h =
-      record { bits = u.bits; characters = omega (arith, g.characters, u.characters); pads = omega (arith, g.pads, u.pads) }
-
   pub going_turn : i < length s → (x : Seen) → x ≡ seen_one w (byte s i) → Going s w₀ x (i + 1)
   unfolding seen_all
   going_turn h x e =
@@ -170,10 +166,6 @@ at_once a s u n (b ∷ l) h =
 
 -- ---- from one part of the run to the next
 
-pub seen_start : (run : List ℕ) → SeenTo run nothing_seen 0
-seen_start run =
-    record { inside = omega arith; same = refl; characters = omega arith; pads = omega arith; bits = record { first = true; second = true; are = refl } }
-
 -- the length of a part
 pub part_size : (run : List ℕ) (i j : ℕ) → i ≤ j → j ≤ length run → length (take (j - i) (drop i run)) ≡ j - i
 part_size run i j h l = length-take-le (j - i) (drop i run) (omega (arith, length-drop i run))
@@ -194,12 +186,6 @@ module _ (run : List ℕ) (w : Seen) (i : ℕ) (u : SeenTo run w i) (j : ℕ) (h
         pads = omega (arith, all_pads w (take (j - i) (drop i run)), u.pads);
         bits = all_bits w (take (j - i) (drop i run)) u.bits;
       })
-
--- where no pad character was seen
-pub seen_unpadded : (run : List ℕ) (w : Seen) (i : ℕ) → SeenTo run w i → w.pads ≡ 0 → SeenTo run (characters_seen w.alphabets (w.characters + (i - i))) i
-seen_unpadded run w i u z =
-    let n : w.characters + (i - i) ≡ w.characters = omega arith in
-    rw (n, ← z) u
 
 -- characters of which an alphabet is left that has all before them
 left_at_once : (left n : ℕ) (l : List ℕ) → Bits left

@@ -70,13 +70,15 @@ impl Seen {
                 ..self
             };
         }
-        let alphabets = if self.pads == 0 {
-            self.alphabets & alphabet_bits(b)
-        } else {
-            0
-        };
+        if self.pads == 0 {
+            return Seen {
+                alphabets: self.alphabets & alphabet_bits(b),
+                characters: self.characters + 1,
+                ..self
+            };
+        }
         Seen {
-            alphabets,
+            alphabets: 0,
             characters: self.characters + 1,
             ..self
         }

@@ -3,9 +3,8 @@
 use mathlib.Core.Path.{◌≡◌, sym, ◌∙◌}
 use mathlib.Core.List.{List, [], ◌∷◌, ◌++◌, append_assoc}
 use Prim.Native.Nat.{ℕ, suc, ◌+◌, ◌-◌, ◌≤◌, ◌<◌}
-use native.Mathlib.Nat.{sub_self}
 use native.Mathlib.Omega.{arith}
-use lib.ListN.{length, take, drop, get_or, set, length-append, length-drop, take-append-drop, get_or-append}
+use lib.ListN.{length, take, drop, get_or, set, length-append, length-drop, get_or-append}
 use lib.Seq.{sets, sets-eq, set_at, take-suc, drop-cons, get_or-take, length-take-le, take-append-add, drop-append-add, take-append_seam, drop_at}
 
 module _ {A : Type 0} where
@@ -13,9 +12,6 @@ module _ {A : Type 0} where
     -- the list while the part moves: what stands from i to `end` stands w further on too
     abbrev pub moving : ℕ → List A
     moving i = take (i + w) l ++ (take (end - i) (drop i l) ++ drop (end + w) l)
-
-    pub moving_first : l ≡ moving end
-    moving_first = rw sub_self (sym (take-append-drop (end + w) l))
 
     module _ (r : end + w ≤ length l) where
       pub moving_turn : (z : A) (i : ℕ) → i < end → set (moving (suc i)) (i + w) (get_or (moving (suc i)) i z) ≡ moving i

@@ -35,18 +35,14 @@ fn make_room(list: &mut [i64], at: usize, end: usize)
     }
 }
 
-// Puts an entry into its place among the first `count`, where the list has room for it. It comes after all of the others by its offset and byte, so that
+// Puts an entry into its place among the first `count`, in a list that has room for it. It comes after all of the others by its offset and byte, so that
 // those of as many nanoseconds stay before it.
 fn put(list: &mut [i64], count: usize, x: Suggestion)
-    requires { (count < 0x10000) × (x.offset < 0x10000) }
+    requires { (count * entry_width + entry_width ≤ length list.old) × (x.offset < 0x10000) }
     ensures { Added x count list.old list.new }
 {
-    let end = count * ENTRY_WIDTH;
-    if list.len() < end + ENTRY_WIDTH {
-        return;
-    }
     let at = place_for(list, count, x.nanos) * ENTRY_WIDTH;
-    make_room(list, at, end);
+    make_room(list, at, count * ENTRY_WIDTH);
     base::store(list, at, &[x.nanos, x.offset as i64, x.byte as i64]);
 }
 
@@ -74,7 +70,9 @@ impl<'a> Suggestions<'a> {
         ensures counted { self.new.count ≡ self.old.count + 1 }
         ensures added { Added x self.old.count self.old.list.now self.new.list.now }
     {
-        put(self.list, self.count, x);
+        if self.count < self.list.len() / ENTRY_WIDTH {
+            put(self.list, self.count, x);
+        }
         self.count += 1;
     }
 }

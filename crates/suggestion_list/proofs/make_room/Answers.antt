@@ -1,5 +1,5 @@
 -- `make_room` moves the numbers: those from i on stand an entry further on already. Assumes nothing.
-use mathlib.Core.Path.{◌≡◌, refl, ap, ◌∙◌}
+use mathlib.Core.Path.{◌≡◌, ap, ◌∙◌}
 use Prim.Native.Nat.{suc, ◌-◌}
 use native.Mathlib.Omega.{arith}
 use lib.IntN.{pos}
@@ -9,11 +9,8 @@ use mir.Val.{SFits}
 use mir.ValLaws.{to_z-of_z}
 use borrow.Author.Rules.{rules}
 use Rattle.suggestion_list.specs.Rows.{entry_width}
-use Rattle.suggestion_list.proofs.Rooms.{moving, moving_first, moving_turn, moving_end}
+use Rattle.suggestion_list.proofs.Rooms.{moving, moving_turn, moving_end}
 use Rattle.suggestion_list.proofs.make_room.Goals as goal
-
-pub loop-i-init : goal.loop-i-init
-loop-i-init c = (c.requires.0, omega arith, refl, moving_first entry_width _ c.args.end)
 
 pub loop-i-preserved : goal.loop-i-preserved
 loop-i-preserved c = let a = c.args in

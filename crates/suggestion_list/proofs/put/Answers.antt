@@ -6,11 +6,8 @@ use mir.Val.{to_z, of_z}
 use mir.ValLaws.{to_z-of_z}
 use borrow.Author.Rules.{rules}
 use Rattle.base.proofs.Signed.{signed}
-use Rattle.suggestion_list.proofs.Rows.{placed, no_room}
+use Rattle.suggestion_list.proofs.Rows.{placed}
 use Rattle.suggestion_list.proofs.put.Goals as goal
-
-pub returns-then-list-end : goal.returns-then-list-end
-returns-then-list-end c = no_room _ _ _ c.if-list-end.true
 
 pub returns : goal.returns
 returns c = let x = c.args.x in

@@ -3,7 +3,7 @@ use mathlib.Core.Path.{◌∙◌}
 use Prim.Native.Nat.{◌+◌}
 use native.Mathlib.Omega.{arith}
 use Rattle.base64_lenient.specs.Helpers.{SeenTo}
-use Rattle.base64_lenient.proofs.Sights.{part_size, seen_start, seen_further}
+use Rattle.base64_lenient.proofs.Sights.{seen_further}
 use Rattle.base64_lenient.proofs.Verdicts.{dead_is, judged_whole}
 use Rattle.base64_lenient.proofs.judge.judge.Goals.{After-all-seen}
 use Rattle.base64_lenient.proofs.judge.judge.Goals as goal
@@ -13,15 +13,6 @@ further : (c : After-all-seen) → SeenTo c.args.run.now c.all-seen.result (c.ro
 further c =
     let u = c.rows-at.ensures.0 in
     seen_further _ _ _ u _ (omega arith) (omega (arith, u.inside)) _ c.all-seen.ensures
-
-pub loop-i-init : goal.loop-i-init
-loop-i-init c = rw c.none-seen.ensures (seen_start _)
-
-pub all-seen-requires : goal.all-seen-requires
-all-seen-requires c =
-    let u = c.rows-at.ensures.0 in
-    let n = part_size c.args.run.now c.rows-at.result.end (c.rows-at.result.end + c.min.result) (omega arith) (omega (arith, u.inside)) in
-    record { bits = u.bits; characters = omega (arith, n, u.characters, u.inside); pads = omega (arith, n, u.pads, u.inside) }
 
 pub returns-then-seen-eq0 : goal.returns-then-seen-eq0
 returns-then-seen-eq0 c =

@@ -4,7 +4,6 @@ use borrow.Author.Tests.{eq-eqb, ne_eqb, eqb-true}
 use lib.Dec.{eqb}
 use Rattle.base.proofs.Tests.{and_left, and_right, told}
 use Rattle.base64_lenient.proofs.Sights.{seen_both, seen_break, seen_pad, seen_character, seen_late}
-use Rattle.base64_lenient.proofs.judge.Seen.one.Goals.{then-self-eq0, else-self-eq0}
 use Rattle.base64_lenient.proofs.judge.Seen.one.Goals as goal
 
 pub returns-then-self-in_both : goal.returns-then-self-in_both
@@ -19,10 +18,8 @@ returns-then-b c = sym (seen_break _ _ c.if-b.true)
 pub returns-then-b-eq61 : goal.returns-then-b-eq61
 returns-then-b-eq61 c = sym (seen_pad _ _ c.if-b.false (eq-eqb _ _ c.if-b-eq61.true))
 
+pub returns-then-self-eq0 : goal.returns-then-self-eq0
+returns-then-self-eq0 c = rw c.alphabet_bits.ensures (sym (seen_character _ _ c.if-b.false (ne_eqb _ _ c.if-b-eq61.false) c.if-self-eq0.true))
+
 pub returns : goal.returns
-returns c =
-    let other = ne_eqb _ _ c.if-b-eq61.false in
-    elim c.if-self-eq0.branch [
-      | then-self-eq0 w ↦ rw (w.alphabets-is, w.alphabet_bits.ensures) (sym (seen_character _ _ c.if-b.false other w.if-self-eq0.true))
-      | else-self-eq0 w ↦ rw w.alphabets-is (sym (seen_late _ _ c.if-b.false other (ne_eqb _ _ w.if-self-eq0.false)))
-    ]
+returns c = sym (seen_late _ _ c.if-b.false (ne_eqb _ _ c.if-b-eq61.false) (ne_eqb _ _ c.if-self-eq0.false))

@@ -3,17 +3,8 @@ use mathlib.Core.Path.{◌≡◌}
 use Prim.Native.Nat.{◌+◌, ◌-◌}
 use native.Mathlib.Omega.{arith}
 use borrow.Author.Rules.{rules}
-use Rattle.base64_lenient.proofs.Sights.{seen_unpadded, seen_row}
+use Rattle.base64_lenient.proofs.Sights.{seen_row}
 use Rattle.base64_lenient.proofs.judge.Seen.rows.Goals as goal
-
-pub returns-then-self-ne0 : goal.returns-then-self-ne0
-returns-then-self-ne0 c = (c.requires, omega arith)
-
-pub loop-i-init : goal.loop-i-init
-loop-i-init c = (seen_unpadded _ _ _ c.requires c.if-self-ne0.false, omega arith)
-
-pub returns-then-next-eq0 : goal.returns-then-next-eq0
-returns-then-next-eq0 c = rw (c.unpadded.ensures.0, c.unpadded.ensures.1) c.loop-i.invariant
 
 pub loop-i-preserved : goal.loop-i-preserved
 loop-i-preserved c = let l = c.loop-i in
@@ -23,6 +14,3 @@ loop-i-preserved c = let l = c.loop-i in
       rw o at (seen_row _ _ _ _ (l.i + 32) l.invariant.0 (omega arith) (search rules) _ c.alphabets_of.ensures c.if-next-eq0.false),
       omega (arith, l.invariant.1),
     )
-
-pub returns : goal.returns
-returns c = rw (c.unpadded-2.ensures.0, c.unpadded-2.ensures.1) c.loop-i.invariant

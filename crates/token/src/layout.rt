@@ -29,6 +29,7 @@ pub struct Record {
 impl Record {
     // The record as it is stored. No `From`, which could not require that the numbers fit; and no ghost field says that they do, since the definitions
     // make records and reports of any numbers (`record_of`, `report_at`).
+    #[tactic(auto, using(base::proofs::Signed::signed))]
     pub fn numbers(self) -> [i64; RECORD_WIDTH]
         requires { RecordFits self }
         ensures { result ≡ record_numbers self }
@@ -62,6 +63,7 @@ pub struct Report {
 
 impl Report {
     // The report as it is stored.
+    #[tactic(auto, using(base::proofs::Signed::signed))]
     pub fn numbers(self) -> [i64; REPORT_WIDTH]
         requires { ReportFits self }
         ensures { result ≡ report_numbers self }

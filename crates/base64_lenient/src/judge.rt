@@ -4,7 +4,7 @@ ghost use Rattle.base64_lenient.specs.Lenient.{right_pads};
 ghost use Rattle.base64_lenient.specs.Helpers.{judge_of, characters_seen, nothing_seen, seen_one, seen_all, judged_seen, CanSee, SeenTo};
 
 use crate::alphabet::{alphabet_bits, alphabets_of, in_both};
-use base::find::BLOCK;
+use base::runs::BLOCK;
 
 // How many bytes are tested at once.
 const ROW: usize = 2 * BLOCK;

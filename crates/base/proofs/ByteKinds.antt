@@ -2,7 +2,7 @@
 -- turns it into the rule at each byte. Assumes nothing.
 use mathlib.Core.Path.{◌≡◌, refl}
 use mathlib.Core.Bool.{Bool, true, false, not, ◌&&◌, ◌||◌}
-use Prim.Native.Nat.{ℕ, ◌+◌, ◌*◌, ◌/◌, ◌%◌, ◌^◌, ◌<◌}
+use Prim.Native.Nat.{ℕ, ◌+◌, ◌*◌, ◌/◌, ◌%◌, ◌<◌}
 use Prim.Native.Char.{code}
 use native.Mathlib.Nat.{mod-lt, div-add-mod, div-lt_iff_lt-mul}
 use native.Mathlib.Omega.{arith}

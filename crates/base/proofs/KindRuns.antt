@@ -1,6 +1,6 @@
 -- For runs of bytes of one kind, by the table: what an entry leaves of a kind tells whether the byte is of it, computed over all bytes. Assumes nothing.
-use mathlib.Core.Path.{◌≡◌, refl}
-use mathlib.Core.Bool.{Bool, true, false, not}
+use mathlib.Core.Path.{◌≡◌}
+use mathlib.Core.Bool.{Bool, true, not}
 use Prim.Native.Nat.{ℕ, ◌<◌}
 use lib.Bits.{bit_and}
 use lib.Dec.{T, eqb}

@@ -5,8 +5,8 @@ use mathlib.Core.List.{List, [], ◌∷◌, ◌++◌, append-nil}
 use Prim.Native.Nat.{ℕ, zero, suc, ◌+◌, ◌≤◌, ◌<◌, ◌-◌}
 use native.Mathlib.Nat.{add-zero, zero-add, add-suc, suc-add}
 use native.Mathlib.Omega.{arith}
-use lib.ListN.{length, set, take, drop, get_or, length-drop, drop_of_length-le}
-use lib.Seq.{sets, sets-eq, set-set, set_comm, drop-cons, drop-drop, get_or-take, get_or-drop, length-take-le, take-add, take-take, drop-length}
+use lib.ListN.{length, set, take, drop}
+use lib.Seq.{sets, sets-eq, set-set, set_comm, length-take-le, take-add, take-take, drop-length}
 use Rattle.base.specs.Buffers.{overlay}
 
 module _ {A : Type 0} where

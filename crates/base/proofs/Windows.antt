@@ -2,7 +2,7 @@
 -- By cases on the two tests of a turn. Assumes nothing.
 use mathlib.Core.Path.{◌≡◌, refl, ◌∙◌}
 use mathlib.Core.Bool.{Bool, true, false}
-use mathlib.Core.List.{List, [], ◌∷◌}
+use mathlib.Core.List.{List}
 use Prim.Native.Nat.{ℕ, zero, suc, ◌+◌, ◌-◌, ◌≤◌, ◌<◌, min}
 use native.Mathlib.Nat.{add-zero, add_assoc}
 use native.Mathlib.Omega.{arith}
@@ -14,8 +14,8 @@ use Rattle.base.specs.Choice.{pick}
 use Rattle.base.specs.Bytes.{byte}
 use Rattle.base.specs.Runs.{run, reach}
 use Rattle.base.specs.Blocks.{window_run, Ahead}
-use Rattle.base.proofs.Tests.{by_cases, true_false, pick_le}
-use Rattle.base.proofs.Reaches.{run_le, run_fails, run_all, reach_step}
+use Rattle.base.proofs.Tests.{by_cases, true_false}
+use Rattle.base.proofs.Reaches.{run_fails, run_all, reach_step}
 
 module _ (p : ℕ → ℕ → Bool) (s : List ℕ) where
   -- what the search has found before the byte at j: where the run ends, or 64 if it is not ended yet

@@ -9,4 +9,5 @@ pub mod Kinds
 pub mod Masks
 pub mod Blocks
 pub mod Buffers
+pub mod Helpers
 pub mod Examples

@@ -5,7 +5,7 @@ use Rattle.std.specs.Bool.{then_some}
 use Rattle.std.specs.Option.{option_map}
 use Rattle.std.proofs.lemmas.Option.{none-some}
 use borrow.Author.Tests.{eqb-false}
-use Rattle.base.specs.Choice.{nonzero}
+use Rattle.base.specs.Helpers.{nonzero}
 use Rattle.base.specs.Bytes.{byte, same_bytes}
 use Rattle.base.specs.Runs.{reach}
 use Rattle.base.specs.Digits.{in_digits}

@@ -2,7 +2,7 @@
 -- and by one test of the table. Assumes nothing.
 use Rattle.std.proofs.Common.{◌≡◌, ℕ, ◌≤◌, Bool, true, ◌&&◌, cond, T, eqb, leb, Option, Some, None, List, [], ◌∷◌, length, refl, zero-le, arith, ne_eqb, leb→le}
 use Rattle.base.specs.Bytes.{byte, same_bytes}
-use Rattle.base.specs.Choice.{nonzero}
+use Rattle.base.specs.Helpers.{nonzero}
 use Rattle.base.proofs.Tests.{and-false, and-true, by_cases, both_left, both_right, pick_le}
 use Rattle.go_duration.specs.Units.{units, unit_in, unit_of}
 

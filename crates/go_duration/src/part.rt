@@ -1,6 +1,6 @@
 // One part of a duration: a number and its unit.
 ghost use Rattle.std.specs.Prelude.{◌≡◌};
-ghost use Rattle.base.specs.Choice.{nonzero};
+ghost use Rattle.base.specs.Helpers.{nonzero};
 ghost use Rattle.base.specs.Runs.{reach};
 ghost use Rattle.go_duration.specs.Digits.{UnitNanos, acc_of};
 ghost use Rattle.go_duration.specs.Units.{unit_of};

@@ -1,5 +1,5 @@
 -- `store_block` leaves the stores of a block: the bytes that the block has been filled with are all its bytes. Assumes nothing.
-use mathlib.Core.Path.{◌≡◌, ◌∙◌, sym}
+use mathlib.Core.Path.{◌≡◌, ◌∙◌}
 use Rattle.base.proofs.Stores.{overlaid_all}
 use Rattle.base.proofs.store_block.Goals as goal
 

@@ -1,6 +1,5 @@
 -- `window_count` meets its contract: what the search has found before each byte. Assumes nothing.
 use mathlib.Core.Path.{◌≡◌}
-use native.Mathlib.Omega.{arith}
 use Rattle.base.specs.Choice.{pick}
 use Rattle.base.proofs.Windows.{searched_first, searched_turn, searched_end}
 use Rattle.base.proofs.runs.window_count.Given.{Over}

@@ -22,12 +22,11 @@ use Rattle.lexer.specs.declared.next.Token.{Token}
 use Rattle.notation.specs.Decimal.{number_text}
 use Rattle.notation.proofs.Digits.{digits_few, number_most}
 use Rattle.reading.specs.Tokens.{tokens}
-use Rattle.reading.specs.Buffers.{record_of, records_of, whole_laid, counts_of}
+use Rattle.reading.specs.Buffers.{record_of, records_of, whole_laid}
 use Rattle.reading.specs.Refusals.{refusal_number, after_check, judge_of, after_judge, room_of}
 use Rattle.reading.specs.Answers.{read_text_answer}
-use Rattle.reading.specs.Passes.{Room, suffice_for}
+use Rattle.reading.specs.Passes.{Room}
 use Rattle.reading.specs.declared.counts.Counts.{Counts}
-use Rattle.reading.specs.declared.refusal.Refusal.{Refusal}
 use Rattle.reading.specs.declared.refusal.Refusal.TheVariants.{NotUtf8}
 use Rattle.reading.proofs.NextToken.{Read, start_bounded}
 use Rattle.reading.proofs.From.{by_each}

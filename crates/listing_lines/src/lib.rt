@@ -66,6 +66,7 @@ fn put_line(row: &[i64], out: &mut [u8], at: usize) -> usize
 }
 
 // The numbers of the line of a token.
+#[tactic(auto, using(base::proofs::Signed::signed))]
 fn token_numbers(t: Token) -> [i64; 7]
     requires { RecordFits (record_of 0 t) }
     ensures { result ≡ line_numbers (record_of 0 t) }
@@ -100,6 +101,7 @@ fn lines_size(text: &[u8]) -> usize
 }
 
 // The same of any text: 0 where it is too long or not UTF-8.
+#[tactic(auto, unfolding(crate::specs::Listing::lines_size))]
 fn listing_size(text: &[u8]) -> usize
     ensures { result ≡ lines_size text.now }
 {

@@ -1,7 +1,7 @@
 -- For `pxf_read_text`, `pxf_read_token` and `pxf_place_of`: what a call's contract says of its result holds of document 01's numbers. By the equation
 -- of the answer. Assumes nothing.
 use mathlib.Core.Path.{◌≡◌}
-use mathlib.Core.List.{List, [], ◌∷◌}
+use mathlib.Core.List.{List}
 use Prim.Native.Nat.{ℕ}
 use native.Mathlib.Omega.{arith}
 use lib.IntN.{ℤ}

@@ -6,7 +6,7 @@ use mathlib.Core.List.{List}
 use Prim.Native.Nat.{ℕ, ◌≤◌}
 use lib.Dec.{leb, eqb}
 use lib.ListN.{length}
-use borrow.Author.Tests.{le-leb, leb-true, eqb-true, eq-eqb, ne_eqb, not-true}
+use borrow.Author.Tests.{le-leb, leb-true, eqb-true, eq-eqb, not-true}
 use Rattle.base.proofs.Tests.{and_left, and_right}
 use Rattle.token.specs.Place.{place_at}
 use Rattle.token.specs.declared.place.Place.{Place}
@@ -32,16 +32,6 @@ module _ (text : List ℕ) (i : ℕ) where
 -- ---- a place that any numbers may make
 
 module _ (text : List ℕ) (p : Place) where
-  -- the code compares with a place that equals that of the offset
-  module _ (g : good_offset text p.offset ≡ true) (q : Place) (e : q ≡ place_at text p.offset) where
-    pub other_line : (p.line ≡ q.line → ⊥) → false ≡ is_place text p
-    unfolding is_place
-    other_line n = rw (g, ← e, ne_eqb _ _ n)
-
-    pub same_line : p.line ≡ q.line → eqb p.column q.column ≡ is_place text p
-    unfolding is_place
-    same_line l = rw (g, ← e, eq-eqb _ _ l)
-
   -- what a place of the text has
   pub record IsPlace : Type 0 where
     pub inside : p.offset ≤ length text

@@ -1,14 +1,13 @@
 -- For `read_token` and the chain of its calls: its answers, each from the tests that led to it. Assumes nothing.
-use mathlib.Core.Path.{◌≡◌, sym, ap, ◌∙◌}
+use mathlib.Core.Path.{◌≡◌, sym, ap}
 use mathlib.Core.Bool.{true, false}
 use mathlib.Core.List.{List, [], ◌∷◌}
-use Prim.Native.Nat.{ℕ, ◌*◌, ◌≤◌}
+use Prim.Native.Nat.{ℕ}
 use native.Mathlib.Omega.{arith}
 use lib.IntN.{ℤ}
 use lib.ListN.{length}
-use Rattle.std.specs.Prelude.{Result, Ok, Err}
+use Rattle.std.specs.Prelude.{Ok, Err}
 use Rattle.base.specs.Bytes.{AreBytes}
-use Rattle.token.specs.Layout.{record_width, report_width}
 use Rattle.token.specs.Helpers.{Walkable}
 use Rattle.token.specs.declared.place.Place.{Place}
 use Rattle.token.proofs.Places.{to_place}

@@ -16,6 +16,7 @@ pub struct Counts {
 
 impl Counts {
     // Checks 4, 5 and 6, in this order, of buffers of so many numbers, bytes and numbers.
+    #[tactic(auto, unfolding(crate::specs::Refusals::room_of))]
     pub(crate) fn fit(self, tokens: usize, strings: usize, reports: usize) -> Result<(), Refusal>
         requires { Few self }
         ensures { result ≡ room_of self tokens strings reports }

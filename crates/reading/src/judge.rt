@@ -7,6 +7,7 @@ use limits::message_limit;
 use utf8::check::{Verdict, check};
 
 // Checks 1 and 2, in this order.
+#[tactic(auto, unfolding(crate::specs::Refusals::judge_of))]
 pub fn judge(text: &[u8]) -> Result<(), Refusal>
     ensures { result ≡ judge_of text.now }
 {

@@ -22,6 +22,7 @@ pub struct OneToken {
 }
 
 // Whether a place is one of the text, with its line and column. Any numbers may come.
+#[tactic(auto, unfolding(crate::specs::Answers::is_place))]
 fn is_place(text: &[u8], place: Place) -> bool
     requires { length text.now ≤ max_message_size }
     ensures { result ≡ is_place text.now place }

@@ -9,6 +9,7 @@ use token::place::{Place, walk};
 use utf8::check::is_inside;
 
 // Whether an offset is neither beyond the text nor inside a character.
+#[tactic(auto, unfolding(crate::specs::Refusals::good_offset))]
 pub fn good_offset(text: &[u8], offset: usize) -> bool
     ensures { result ≡ good_offset text.now offset }
 {
@@ -16,6 +17,7 @@ pub fn good_offset(text: &[u8], offset: usize) -> bool
 }
 
 // The place of an offset of the text.
+#[tactic(auto, unfolding(crate::specs::Answers::place_of_answer))]
 pub fn place_of(text: &[u8], offset: usize) -> Result<Place, Refusal>
     ensures { result ≡ place_of_answer text.now offset }
 {

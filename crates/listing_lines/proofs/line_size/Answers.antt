@@ -11,7 +11,7 @@ use borrow.Author.Rules.{rules}
 use Rattle.notation.specs.Decimal.{number_text}
 use Rattle.notation.proofs.Digits.{number_most}
 use Rattle.listing_lines.proofs.Lines.{number_at, number_length, line_at_lem, line_done, line_most}
-use Rattle.listing_lines.proofs.Pieces.{counting_start, counting_turn, counting_end}
+use Rattle.listing_lines.proofs.Pieces.{counting_turn, counting_end}
 use Rattle.listing_lines.proofs.line_size.Goals.{After-number_size}
 use Rattle.listing_lines.proofs.line_size.Goals as goal
 
@@ -22,9 +22,6 @@ size_is c =
     let z = get_or c.args.row.now c.loop-z.z-index (pos 0) in let f : SFits w64 z = search rules in let e : c.number_size.result ≡ length (number_text z) =
     rw (to_z-of_z w64 _ f) at c.number_size.ensures in (e, omega (arith, number_most z))
 
-pub loop-z-init : goal.loop-z-init
-loop-z-init c = (omega arith, counting_start _)
-
 pub overflow_add-size : goal.overflow_add-size
 overflow_add-size c =
     let at = goal.at.overflow_add-size c in
@@ -33,7 +30,7 @@ overflow_add-size c =
 pub overflow_add-size-in-loop-z : goal.overflow_add-size-in-loop-z
 overflow_add-size-in-loop-z c =
     let at = goal.at.overflow_add-size-in-loop-z c in
-    record { fits = omega (arith, (size_is at.After-number_size), c.loop-z.invariant.1.sum, line_most c.args.row.now, c.requires) }
+    record { fits = omega (arith, (size_is at.After-number_size), c.loop-z.invariant.sum, line_most c.args.row.now, c.requires) }
 
 pub loop-z-preserved : goal.loop-z-preserved
 loop-z-preserved c =
@@ -41,7 +38,7 @@ loop-z-preserved c =
     let row = c.args.row.now in
     let k = c.loop-z.z-index in
     let e = line_at_lem row k c.loop-z-test.true in
-    (omega arith, counting_turn c.loop-z.invariant.1 (number_at row k) e (omega (arith, (size_is at.After-number_size), number_length row k)))
+    counting_turn c.loop-z.invariant (number_at row k) e (omega (arith, (size_is at.After-number_size), number_length row k))
 
 pub returns : goal.returns
-returns c = counting_end c.loop-z.invariant.1 (line_done _ _ c.loop-z-test.false)
+returns c = counting_end c.loop-z.invariant (line_done _ _ c.loop-z-test.false)

@@ -3,20 +3,9 @@ use mathlib.Core.Path.{◌≡◌, sym, ◌∙◌}
 use Rattle.reading.specs.Refusals.{judge_of}
 use Rattle.std.specs.Prelude.{Ok}
 use Rattle.reading.proofs.Refusals.{fitting, well_octets}
-use Rattle.listing_lines.specs.Listing.{lines_size}
 use Rattle.listing_lines.proofs.listing_size.Goals as goal
 
 pub lines_size-requires : goal.lines_size-requires
 lines_size-requires c =
     let fit : judge_of c.args.text.now ≡ Ok tt = sym c.judge.ensures ∙ c.in-Ok.is in
     let f = fitting _ fit in (f.0, well_octets _ f.1)
-
-pub returns-in-Ok : goal.returns-in-Ok
-unfolding lines_size
-returns-in-Ok c =
-    let fit : judge_of c.args.text.now ≡ Ok tt = sym c.judge.ensures ∙ c.in-Ok.is in
-    rw fit c.lines_size.ensures
-
-pub returns-in-Err : goal.returns-in-Err
-unfolding lines_size
-returns-in-Err c = rw (sym c.judge.ensures ∙ c.in-Err.is)

@@ -3,20 +3,17 @@ use mathlib.Core.Path.{ap}
 use Prim.Native.Nat.{◌+◌, ◌*◌}
 use native.Mathlib.Omega.{arith}
 use lib.ListN.{length, drop, length-append}
-use Rattle.base.proofs.Storings.{storing_first, storing_to, storing_end}
+use Rattle.base.proofs.Storings.{storing_to, storing_end}
 use Rattle.token.specs.Layout.{record_width}
 use Rattle.listing_lines.specs.Lines.{line_text}
 use Rattle.listing_lines.specs.Rows.{line_at}
-use Rattle.listing_lines.proofs.Lines.{rows_from, rows_start, rows_at, rows_done}
+use Rattle.listing_lines.proofs.Lines.{rows_from, rows_at, rows_done}
 use Rattle.listing_lines.proofs.put_lines.Goals as goal
-
-pub loop-i-init : goal.loop-i-init
-loop-i-init c = (omega arith, rw rows_start (storing_first (omega arith)))
 
 pub put_line-end-requires : goal.put_line-end-requires
 put_line-end-requires c = let T = c.args.tokens.now in
     let i = c.loop-i.i in
-    let w = c.loop-i.invariant.1 in
+    let w = c.loop-i.invariant in
     let e = rows_at T c.args.count i c.loop-i-test.true in
     let line = line_text (line_at (drop (i * record_width) T)) in
     rw c.line_numbers.ensures
@@ -27,10 +24,7 @@ loop-i-preserved c = let a = c.args in
     let i = c.loop-i.i in
     let w = rw c.line_numbers.ensures at c.put_line-end.ensures in
     let e = rows_at a.tokens.now a.count i c.loop-i-test.true in
-    (omega arith, storing_to c.loop-i.invariant.1 (line_text (line_at (drop (i * record_width) a.tokens.now))) _ e w.1 w.0)
-
-pub shape_of-out : goal.shape_of-out
-shape_of-out c = c.loop-i.invariant.1.same
+    storing_to c.loop-i.invariant (line_text (line_at (drop (i * record_width) a.tokens.now))) _ e w.1 w.0
 
 pub returns : goal.returns
-returns c = storing_end c.loop-i.invariant.1 (rows_done _ _ _ c.loop-i-test.false)
+returns c = storing_end c.loop-i.invariant (rows_done _ _ _ c.loop-i-test.false)

@@ -1,13 +1,10 @@
 -- `read_text` answers by the first check that fails, before anything is stored; else, or where the buffers suffice in any case, it stores all.
 -- Assumes nothing.
-use mathlib.Core.Path.{◌≡◌, sym, ◌∙◌}
-use native.Mathlib.Omega.{arith}
+use mathlib.Core.Path.{sym, ◌∙◌}
 use lib.ListN.{length}
 use Rattle.std.proofs.lemmas.Result.{err_from_is_err_and}
-use Rattle.std.specs.Prelude.{Ok}
 use Rattle.reading.specs.Buffers.{whole_laid}
 use Rattle.reading.specs.Passes.{Room}
-use Rattle.reading.specs.Refusals.{judge_of}
 use Rattle.reading.proofs.Refusals.{fitting, well_octets, enough}
 use Rattle.reading.proofs.Fits.{suffice_room}
 use Rattle.reading.proofs.TextAnswers.{most_few, few, unfit, short, done}

@@ -26,7 +26,8 @@ use Rattle.token.proofs.Places.{place_offset, to_place, flat_along}
 use Rattle.lexeme.specs.declared.Lexeme.{Lexeme}
 use Rattle.lexer.specs.Helpers.{FromQuote, Ending, Placing}
 use Rattle.lexer.specs.Reading.{lexeme_in, string_in}
-use Rattle.lexer.specs.Token.{in_blanks, start_at, found_from, found_at, found_end, placed, token_of, next_token}
+use Rattle.scan.specs.Run.{in_blank}
+use Rattle.lexer.specs.Token.{start_at, found_from, found_at, found_end, placed, token_of, next_token}
 use Rattle.lexer.specs.declared.reading.Reading.{Reading}
 use Rattle.lexer.specs.declared.next.Found.{Found}
 use Rattle.lexer.proofs.Lexes.{Lexes, lexes}
@@ -49,15 +50,15 @@ from_quote text i o h = subst FromQuote (sym (rest_is text i)) (quote_rest text 
 
 pub start_le : (text : List ℕ) (at : ℕ) → at ≤ length text → start_at text at ≤ length text
 unfolding start_at
-start_le text at h = reach_le in_blanks text at h
+start_le text at h = reach_le in_blank text at h
 
 start_ge : (text : List ℕ) (at : ℕ) → at ≤ start_at text at
 unfolding start_at
-start_ge text at = reach_ge in_blanks text at
+start_ge text at = reach_ge in_blank text at
 
 gap_is : (text : List ℕ) (at k : ℕ) → at ≤ k → k < start_at text at → is_space (byte text k) ≡ true
 unfolding start_at
-gap_is text at k l u = reach_all in_blanks text at k l u
+gap_is text at k l u = reach_all in_blank text at k l u
 
 -- the token that starts at an offset ends in the text
 from_in : (m : Reading) (limit : ℕ) (text : List ℕ) (i : ℕ) → i ≤ length text → i + (lexeme_in m limit (drop i text)).len ≤ length text
@@ -136,7 +137,7 @@ pub record NextUtf8 (m : Reading) (text : List ℕ) (f : Found) : Type 0 where
   pub end : Boundary text (found_end f)
   pub string : Octets (string_in m (drop f.start text))
 
-space_ascii : (a b : ℕ) → in_blanks a b ≡ true → ltb a 128 ≡ true
+space_ascii : (a b : ℕ) → in_blank a b ≡ true → ltb a 128 ≡ true
 unfolding is_space
 space_ascii a b e =
     or_case (eqb a 32 || eqb a 9) (eqb a 13) e
@@ -151,7 +152,7 @@ back_boundary text a n h b = rest_boundary text (a + n) h (rw drop-drop at (boun
 
 found_start : (m : Reading) (limit : ℕ) (text : List ℕ) (at : ℕ) → Boundary text at → Boundary text (found_at m limit text at).start
 unfolding found_at start_at
-found_start m limit text at b = reach_boundary in_blanks space_ascii text at b
+found_start m limit text at b = reach_boundary in_blank space_ascii text at b
 
 pub next_utf8 : (m : Reading) (limit : ℕ) (text : List ℕ) (at : ℕ) → Boundary text at → NextUtf8 m text (found_at m limit text at)
 next_utf8 m limit text at b =

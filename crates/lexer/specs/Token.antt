@@ -1,13 +1,13 @@
 -- The next token from an offset of the text, with its places: document 01, "Places and records".
 use Rattle.std.specs.Prelude.{Bool, List, ℕ, ◌+◌, eqb, drop}
 use Rattle.base.specs.Choice.{pick}
-use Rattle.base.specs.Classes.{is_space}
 use Rattle.base.specs.Runs.{reach}
 use Rattle.token.specs.Kind.{is_string}
 use Rattle.token.specs.Place.{place_at}
 use Rattle.token.specs.declared.place.Place.{Place}
 use Rattle.token.specs.declared.kind.TokenKind.{TokenKind}
 use Rattle.lexeme.specs.declared.Lexeme.{Lexeme}
+use Rattle.scan.specs.Run.{in_blank}
 use Rattle.lexer.specs.Reading.{lexeme_in}
 use Rattle.lexer.specs.declared.reading.Reading.{Reading}
 use Rattle.lexer.specs.declared.next.Found.{Found}
@@ -18,13 +18,9 @@ use Rattle.lexer.specs.declared.next.Token.{Token}
 -- Types that other files explain: `Place` in token/specs/Place.antt; `TokenKind` in token/specs/Kind.antt; `Lexeme` in lexeme/specs/Lexeme.antt;
 -- `Reading` in Reading.antt.
 
--- `skip_spaces`: a blank; what follows it does not count
-abbrev pub in_blanks : ℕ → ℕ → Bool
-in_blanks a b = is_space a
-
 -- where the token after an offset starts: past the blanks
 unfoldable pub start_at : List ℕ → ℕ → ℕ
-start_at text at = reach in_blanks text at
+start_at text at = reach in_blank text at
 
 -- the token that starts at an offset, relative to it
 abbrev pub found_from : Reading → ℕ → List ℕ → ℕ → Found

@@ -15,7 +15,7 @@ ends_timestamp a b =
 abbrev pub in_stamp : ℕ → ℕ → Bool
 in_stamp a b = not (ends_timestamp a b)
 
--- the blanks between tokens
+-- `skip_spaces`: the blanks between tokens
 abbrev pub in_blank : ℕ → ℕ → Bool
 in_blank a b = is_space a
 

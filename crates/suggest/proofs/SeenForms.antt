@@ -24,7 +24,8 @@ use Rattle.go_duration.specs.Written.{WrittenPart, part_bytes, Duration, total_o
 use Rattle.go_duration.proofs.Durations.{complete, refused}
 use Rattle.scan.specs.Run.{unit_piece}
 use Rattle.scan.specs.Number.{duration_by, lex_number}
-use Rattle.lexer.specs.Token.{start_at, in_blanks}
+use Rattle.scan.specs.Run.{in_blank}
+use Rattle.lexer.specs.Token.{start_at}
 use Rattle.suggest.specs.Helpers.{starts_number, seen_by}
 use Rattle.suggest.proofs.PartCuts.{Pieces, no_piece, piece, pieces_parts}
 use Rattle.suggest.proofs.PieceWalks.{walk_pieces, walk_blanks}
@@ -53,7 +54,7 @@ pub record Form (s : List ℕ) (neg : Bool) (ps : List WrittenPart) : Type 0 whe
 
 -- ---- blanks to the end
 
-run_blanks : (s : List ℕ) → each is_space s ≡ true → run in_blanks s ≡ length s
+run_blanks : (s : List ℕ) → each is_space s ≡ true → run in_blank s ≡ length s
 unfolding run
 run_blanks [] e = refl
 run_blanks (b ∷ s) e = rw (and_left (is_space b) (each is_space s) e, run_blanks s (and_right (is_space b) (each is_space s) e))

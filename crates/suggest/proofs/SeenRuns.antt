@@ -29,7 +29,8 @@ use Rattle.go_duration.proofs.Durations as durations
 use Rattle.scan.specs.Number.{lex_number}
 use Rattle.scan.proofs.Scanned.{DurationRun, Scanned}
 use Rattle.scan.proofs.Numbers.{number_on_line}
-use Rattle.lexer.specs.Token.{start_at, in_blanks}
+use Rattle.scan.specs.Run.{in_blank}
+use Rattle.lexer.specs.Token.{start_at}
 use Rattle.suggest.specs.Helpers.{starts_number, seen_by}
 use Rattle.suggest.proofs.PartCuts.{digit_front}
 use Rattle.suggest.proofs.PieceRuns.{Fit, Begun, number_fits}
@@ -46,11 +47,11 @@ pub record SeenAs (s : List ℕ) (z : ℤ) : Type 0 where
   pub value : z ≡ sign_of neg (total_of parts)
 
 -- blanks to the end
-blanks_run : (s : List ℕ) → run in_blanks s ≡ length s → each is_space s ≡ true
+blanks_run : (s : List ℕ) → run in_blank s ≡ length s → each is_space s ≡ true
 unfolding run
 blanks_run [] e = refl
 blanks_run (b ∷ s) e =
-    by_cases (is_space b) (λ q. rw q (blanks_run s (let h : suc (run in_blanks s) ≡ suc (length s) = rw q at e in omega arith)))
+    by_cases (is_space b) (λ q. rw q (blanks_run s (let h : suc (run in_blank s) ≡ suc (length s) = rw q at e in omega arith)))
     (λ q. let h : 0 ≡ suc (length s) = rw q at e in absurd (omega arith))
 
 other_duration : {z : ℤ} → None ≡ Some z → ⊥

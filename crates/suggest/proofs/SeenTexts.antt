@@ -22,7 +22,8 @@ use Rattle.utf8.proofs.Concatenations.{ascii_octets}
 use Rattle.utf8.proofs.Valid.{octets_valid}
 use Rattle.token.specs.Kind.{kind_number, eof_number, duration_number}
 use Rattle.token.specs.declared.layout.Record.{Record}
-use Rattle.lexer.specs.Token.{in_blanks, start_at, next_token}
+use Rattle.scan.specs.Run.{in_blank}
+use Rattle.lexer.specs.Token.{start_at, next_token}
 use Rattle.lexer.specs.declared.reading.Reading.TheVariants.{Strict}
 use Rattle.reading.specs.Buffers.{whole_laid}
 use Rattle.reading.specs.Refusals.{judge_of, after_judge}
@@ -73,7 +74,7 @@ module _ (limit : ℕ) (text : List ℕ) where
         (λ j h. let l = length-take-le a text (omega arith) in rw (get_or-take a text j 0 (omega arith)) (r.gap j zero-le (omega arith))) in
         let back : Clean (drop b text) =
         blanks_clean (drop b text)
-        (λ j h. let l = length-drop b text in rw (get_or-drop b text j 0) (reach_all in_blanks text b (b + j) (omega arith) (omega arith))) in
+        (λ j h. let l = length-drop b text in rw (get_or-drop b text j 0) (reach_all in_blank text b (b + j) (omega arith) (omega arith))) in
         let whole : Clean (take a text ++ (take (b - a) (drop a text) ++ drop (b - a) (drop a text))) =
         clean_append front (clean_append (clean_duration (r.duration k).form) (rw m back)) in
         rw (take-append-drop (b - a) (drop a text), take-append-drop a text) at whole

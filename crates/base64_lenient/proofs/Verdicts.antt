@@ -2,7 +2,7 @@
 -- then for the characters before it. Assumes nothing.
 use Rattle.std.specs.Prelude.{Option, Some, None}
 use mathlib.Core.Path.{◌≡◌, refl, sym, ap, ◌∙◌}
-use mathlib.Core.Bool.{Bool, true, false, not, ◌&&◌, ◌||◌}
+use mathlib.Core.Bool.{Bool, true, false, ◌&&◌, ◌||◌}
 use mathlib.Core.List.{List, [], ◌∷◌, map}
 use Prim.Native.Nat.{ℕ, suc, ◌+◌, ◌*◌, ◌/◌, ◌%◌, ◌≤◌}
 use native.Mathlib.Nat.{add-zero}
@@ -16,10 +16,9 @@ use Rattle.base.proofs.Tests.{by_cases, and-true, and-false, and_assoc, and_righ
 use Rattle.base64_lenient.specs.Rfc4648.{standard, url_safe}
 use Rattle.base64_lenient.specs.Lenient.{is_line_break, without_breaks, before_pads, from_pads, is_in, six_bits, in_one_alphabet, right_pads, is_pad, decodes}
 use Rattle.base64_lenient.specs.Lenient.{regroup, decoded}
-use Rattle.base64_lenient.specs.Helpers.{judge_of, as_bits, characters_seen, nothing_seen, seen_one, seen_all, judged_seen, SeenTo}
+use Rattle.base64_lenient.specs.Helpers.{judge_of, alphabets_by, some_alphabet, characters_seen, nothing_seen, seen_one, seen_all, judged_seen, SeenTo}
 use Rattle.base64_lenient.specs.declared.judge.Seen.{Seen}
 use Rattle.base64_lenient.proofs.Rfc4648.{no_single}
-use Rattle.base64_lenient.proofs.AlphabetTests.{bits_shared}
 use Rattle.base64_lenient.proofs.Sights.{seen_break, seen_pad, seen_character, seen_late, none_fails}
 
 -- how many bytes n values make
@@ -30,16 +29,10 @@ size n = n / 4 * 3 + n % 4 * 3 / 4
 abbrev verdict : Bool → ℕ → Bool → ℕ → Option ℕ
 verdict characters n pads k = pick (characters && (pads && right_pads n k)) (Some (size n)) None
 
-some_bits : (s u : Bool) → not (eqb (as_bits s u) 0) ≡ s || u
-some_bits true true = refl
-some_bits true false = refl
-some_bits false true = refl
-some_bits false false = refl
-
 -- where nothing is left of the run
-judged_bits : (s u : Bool) (n k : ℕ) → judged_seen (record { alphabets = as_bits s u; characters = n; pads = k }) ≡ verdict (s || u) n true k
+judged_bits : (s u : Bool) (n k : ℕ) → judged_seen (record { alphabets = alphabets_by s u; characters = n; pads = k }) ≡ verdict (s || u) n true k
 unfolding judged_seen
-judged_bits s u n k = rw (some_bits s u)
+judged_bits s u n k = refl
 
 -- where a byte is left
 judged_one : (w : Seen) (b : ℕ) (l : List ℕ) (x : Seen) → seen_one w b ≡ x → judged_seen (seen_all w (b ∷ l)) ≡ judged_seen (seen_all x l)
@@ -57,11 +50,11 @@ module _ (s u : Bool) (n : ℕ) where
   padded_by k t = verdict (s || u) n (each is_pad t) (k + length t)
 
   from_pads_lem : (k : ℕ) → eqb k 0 ≡ false → (l : List ℕ)
-      → judged_seen (seen_all (record { alphabets = as_bits s u; characters = n; pads = k }) l) ≡ padded_by k (without_breaks l)
+      → judged_seen (seen_all (record { alphabets = alphabets_by s u; characters = n; pads = k }) l) ≡ padded_by k (without_breaks l)
   unfolding without_breaks
-  from_pads_lem k z [] = judged_none (record { alphabets = as_bits s u; characters = n; pads = k }) ∙ judged_bits s u n k ∙ rw (add-zero k)
+  from_pads_lem k z [] = judged_none (record { alphabets = alphabets_by s u; characters = n; pads = k }) ∙ judged_bits s u n k ∙ rw (add-zero k)
   from_pads_lem k z (b ∷ l) =
-      let w : Seen = record { alphabets = as_bits s u; characters = n; pads = k } in
+      let w : Seen = record { alphabets = alphabets_by s u; characters = n; pads = k } in
       by_cases (is_line_break b)
       (λ p. judged_one w b l w (seen_break w b p) ∙ from_pads_lem k z l ∙ rw p)
       (λ p. by_cases (is_pad b)
@@ -87,19 +80,19 @@ pad_first s u n b t q =
     rw (e, q, and-true s, and-true u, add-zero n, o)
 
 before_pads_lem : (s u : Bool) (n : ℕ) (l : List ℕ)
-    → judged_seen (seen_all (characters_seen (as_bits s u) n) l) ≡ spelled s u n (before_pads (without_breaks l)) (from_pads (without_breaks l))
+    → judged_seen (seen_all (characters_seen (alphabets_by s u) n) l) ≡ spelled s u n (before_pads (without_breaks l)) (from_pads (without_breaks l))
 unfolding without_breaks before_pads
 before_pads_lem s u n [] =
-    judged_none (characters_seen (as_bits s u) n) ∙ judged_bits s u n 0 ∙ rw (and-true s, and-true u, add-zero n)
+    judged_none (characters_seen (alphabets_by s u) n) ∙ judged_bits s u n 0 ∙ rw (and-true s, and-true u, add-zero n)
 before_pads_lem s u n (b ∷ l) =
-    let w : Seen = characters_seen (as_bits s u) n in
+    let w : Seen = characters_seen (alphabets_by s u) n in
     by_cases (is_line_break b)
     (λ p. judged_one w b l w (seen_break w b p) ∙ before_pads_lem s u n l ∙ rw p)
     (λ p. by_cases (is_pad b)
     (λ q. judged_one w b l _ (seen_pad w b p q) ∙ from_pads_lem s u n 1 refl l ∙ rw p (pad_first s u n b (without_breaks l) q))
     (λ q. let x = is_in standard b in let y = is_in url_safe b in
     let o : n + 1 + length (before_pads (without_breaks l)) ≡ n + suc (length (before_pads (without_breaks l))) = omega arith in
-    judged_one w b l (characters_seen (as_bits (s && x) (u && y)) (n + 1)) (seen_character w b p q refl ∙ rw (bits_shared s u x y))
+    judged_one w b l (characters_seen (alphabets_by (s && x) (u && y)) (n + 1)) (seen_character w b p q refl)
     ∙ before_pads_lem (s && x) (u && y) (n + 1) l
     ∙ rw (
       p,
@@ -141,5 +134,5 @@ module _ (run : List ℕ) (w : Seen) (i : ℕ) (u : SeenTo run w i) where
       let e : judged_seen (seen_all w []) ≡ judged_seen (seen_all nothing_seen run) = ap judged_seen (rw (drop_of_length-le run h) at u.same) in
       sym (judged_none w) ∙ e ∙ judged_is run
 
-  pub dead_is : w.alphabets ≡ 0 → None ≡ judge_of run
+  pub dead_is : some_alphabet w.alphabets ≡ false → None ≡ judge_of run
   dead_is z = sym (none_fails w (drop i run) z) ∙ ap judged_seen u.same ∙ judged_is run

@@ -1,14 +1,14 @@
 -- Helper definitions, for proofs and inner contracts alone: what is seen of a run byte by byte, and its characters' values group by group.
-use Rattle.std.specs.Prelude.{◌≡◌, Bool, true, false, not, ◌&&◌, List, [], ◌∷◌, ◌++◌, ℕ, ◌+◌, ◌*◌, ◌/◌, ◌%◌, ◌≤◌, ◌<◌, eqb, ltb, length, take, drop, get_or, Option, Some, None}
-use Rattle.std.specs.Int.Bits.{bit_and}
+use Rattle.std.specs.Prelude.{◌≡◌, Bool, true, false, ◌&&◌, ◌||◌, List, [], ◌∷◌, ◌++◌, ℕ, ◌+◌, ◌*◌, ◌/◌, ◌%◌, ◌≤◌, ◌<◌, eqb, ltb, length, take, drop, get_or, Option, Some, None}
 use Rattle.std.proofs.lemmas.List.Edits.{sets}
 use Rattle.base.specs.Choice.{pick}
 use Rattle.base64_lenient.specs.Rfc4648.{standard, url_safe}
 use Rattle.base64_lenient.specs.Lenient.{is_line_break, is_pad, is_in, six_bits, right_pads, decodes, regroup, decoded}
+use Rattle.base64_lenient.specs.declared.alphabet.Alphabets.{Alphabets}
 use Rattle.base64_lenient.specs.declared.judge.Seen.{Seen}
 use Rattle.base64_lenient.specs.declared.decode.Group.{Group}
 
--- Types of the code (src/judge.rt, src/decode.rt). `Seen`: which alphabets have all characters of what was seen, as bits, and how many characters and
+-- Types of the code (src/alphabet.rt, src/judge.rt, src/decode.rt). `Alphabets`: which of the two. `Seen`: which alphabets have all characters of what was seen, and how many characters and
 -- pad characters it has. `Passed`: what was seen, and where it ends. `Group`: the values of at most four characters, how many they are, and where
 -- they end.
 
@@ -22,37 +22,36 @@ judge_of run = pick (decodes run) (Some (length (decoded run))) None
 unfoldable pub in_both : ℕ → Bool
 in_both b = is_in standard b && is_in url_safe b
 
--- two tests as the bits 1 and 2
-abbrev pub as_bits : Bool → Bool → ℕ
-as_bits true true = 3
-as_bits true false = 1
-as_bits false true = 2
-as_bits false false = 0
-
--- a number of these bits alone
-pub record Bits (k : ℕ) : Type 0 where
-  pub first : Bool
-  pub second : Bool
-  pub are : k ≡ as_bits first second
+-- those alphabets
+abbrev pub alphabets_by : Bool → Bool → Alphabets
+alphabets_by s u = record { standard = s; url_safe = u }
 
 -- the alphabets that have a byte
-abbrev pub alphabets_of : ℕ → ℕ
-alphabets_of b = as_bits (is_in standard b) (is_in url_safe b)
+abbrev pub alphabets_of : ℕ → Alphabets
+alphabets_of b = alphabets_by (is_in standard b) (is_in url_safe b)
+
+-- those of both
+abbrev pub shared : Alphabets → Alphabets → Alphabets
+shared a c = alphabets_by (a.standard && c.standard) (a.url_safe && c.url_safe)
+
+-- there is one
+abbrev pub some_alphabet : Alphabets → Bool
+some_alphabet a = a.standard || a.url_safe
 
 -- so many characters of these alphabets were seen, and no pad character
-abbrev pub characters_seen : ℕ → ℕ → Seen
+abbrev pub characters_seen : Alphabets → ℕ → Seen
 characters_seen alphabets n = record { alphabets = alphabets; characters = n; pads = 0 }
 
 -- nothing was seen yet
 abbrev pub nothing_seen : Seen
-nothing_seen = characters_seen 3 0
+nothing_seen = characters_seen (alphabets_by true true) 0
 
 -- one byte more; a character after a pad character is of no alphabet
 unfoldable pub seen_one : Seen → ℕ → Seen
 seen_one w b =
     pick (is_line_break b) w
     (pick (is_pad b) (record { alphabets = w.alphabets; characters = w.characters; pads = w.pads + 1 })
-    (record { alphabets = bit_and w.alphabets (pick (eqb w.pads 0) (alphabets_of b) 0); characters = w.characters + 1; pads = w.pads }))
+    (record { alphabets = shared w.alphabets (pick (eqb w.pads 0) (alphabets_of b) (alphabets_by false false)); characters = w.characters + 1; pads = w.pads }))
 
 -- more bytes, one after the other
 unfoldable pub seen_all : Seen → List ℕ → Seen
@@ -62,11 +61,10 @@ seen_all w (b ∷ s) = seen_all (seen_one w b) s
 -- what a run is of which this was seen
 unfoldable pub judged_seen : Seen → Option ℕ
 judged_seen w =
-    pick (not (eqb w.alphabets 0) && right_pads w.characters w.pads) (Some (w.characters / 4 * 3 + w.characters % 4 * 3 / 4)) None
+    pick (some_alphabet w.alphabets && right_pads w.characters w.pads) (Some (w.characters / 4 * 3 + w.characters % 4 * 3 / 4)) None
 
 -- n bytes more can be seen
 pub record CanSee (w : Seen) (n : ℕ) : Type 0 where
-  pub bits : Bits w.alphabets
   pub characters : w.characters + n < 0x10000000000000000
   pub pads : w.pads + n < 0x10000000000000000
 
@@ -76,7 +74,6 @@ pub record SeenTo (run : List ℕ) (w : Seen) (i : ℕ) : Type 0 where
   pub same : seen_all w (drop i run) ≡ seen_all nothing_seen run
   pub characters : w.characters ≤ i
   pub pads : w.pads ≤ i
-  pub bits : Bits w.alphabets
 
 -- ---- decoding
 

@@ -1,9 +1,9 @@
 // The two alphabets.
-ghost use Rattle.std.specs.Prelude.{◌≡◌};
+ghost use Rattle.std.specs.Prelude.{◌≡◌, true, false};
 ghost use Rattle.base.specs.Blocks.{all_pass};
 ghost use Rattle.base64_lenient.specs.Rfc4648.{standard, url_safe};
 ghost use Rattle.base64_lenient.specs.Lenient.{is_in};
-ghost use Rattle.base64_lenient.specs.Helpers.{in_both, as_bits, alphabets_of};
+ghost use Rattle.base64_lenient.specs.Helpers.{in_both, alphabets_by, alphabets_of, shared, some_alphabet};
 
 // An entry for each byte: its value as a character, in the alphabet that has it, or 64.
 pub const VALUES: [u8; 256] = [
@@ -290,20 +290,71 @@ pub fn in_url_safe(b: u8) -> bool
     in_both(b) | (b == b'-') | (b == b'_')
 }
 
-// The alphabets that have the byte, as bits: 1 for the standard one, 2 for the other.
-pub fn alphabet_bits(b: u8) -> u8
-    ensures { result ≡ alphabets_of b }
-{
-    (in_standard(b) as u8) + (in_url_safe(b) as u8) * 2
+// Which of the two alphabets have what was looked at.
+#[derive(Clone, Copy)]
+pub struct Alphabets {
+    pub standard: bool,
+    pub url_safe: bool,
 }
 
-// The alphabets that have all bytes. It looks at every byte, so that several can be tested by one instruction.
-pub fn alphabets_of(s: &[u8]) -> u8
-    ensures { result ≡ as_bits (all_pass (is_in standard) s.now) (all_pass (is_in url_safe) s.now) }
-{
-    let mut left = 3;
-    for b in s {
-        left &= alphabet_bits(*b);
+impl Alphabets {
+    // Both of them.
+    pub fn both() -> Alphabets
+        ensures { result ≡ alphabets_by true true }
+    {
+        Alphabets {
+            standard: true,
+            url_safe: true,
+        }
     }
-    left
+
+    // Neither of them.
+    pub fn none() -> Alphabets
+        ensures { result ≡ alphabets_by false false }
+    {
+        Alphabets {
+            standard: false,
+            url_safe: false,
+        }
+    }
+
+    // Those that have the byte.
+    pub fn with(b: u8) -> Alphabets
+        ensures { result ≡ alphabets_of b }
+    {
+        Alphabets {
+            standard: in_standard(b),
+            url_safe: in_url_safe(b),
+        }
+    }
+
+    // Those that have all bytes. It looks at every byte, so that several can be tested by one instruction.
+    pub fn with_all(s: &[u8]) -> Alphabets
+        ensures { result ≡ alphabets_by (all_pass (is_in standard) s.now) (all_pass (is_in url_safe) s.now) }
+    {
+        let mut standard = true;
+        let mut url_safe = true;
+        for b in s {
+            standard &= in_standard(*b);
+            url_safe &= in_url_safe(*b);
+        }
+        Alphabets { standard, url_safe }
+    }
+
+    // Those of both.
+    pub fn shared(self, other: Alphabets) -> Alphabets
+        ensures { result ≡ shared self other }
+    {
+        Alphabets {
+            standard: self.standard & other.standard,
+            url_safe: self.url_safe & other.url_safe,
+        }
+    }
+
+    // Whether there is one.
+    pub fn some(self) -> bool
+        ensures { result ≡ some_alphabet self }
+    {
+        self.standard | self.url_safe
+    }
 }

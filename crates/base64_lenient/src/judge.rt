@@ -3,17 +3,16 @@ ghost use Rattle.std.specs.Prelude.{◌≡◌, ◌≤◌, ◌<◌, length};
 ghost use Rattle.base64_lenient.specs.Lenient.{right_pads};
 ghost use Rattle.base64_lenient.specs.Helpers.{judge_of, characters_seen, nothing_seen, seen_one, seen_all, judged_seen, CanSee, SeenTo};
 
-use crate::alphabet::{alphabet_bits, alphabets_of, in_both};
+use crate::alphabet::{Alphabets, in_both};
 use base::runs::BLOCK;
 
 // How many bytes are tested at once.
 const ROW: usize = 2 * BLOCK;
 
-// What was seen of a run: which alphabets have all of its characters, as bits, so that several bytes can be tested by one instruction, how many characters
-// there are, and how many pad characters.
+// What was seen of a run: which alphabets have all of its characters, how many there are, and how many pad characters.
 #[derive(Clone, Copy)]
 struct Seen {
-    alphabets: u8,
+    alphabets: Alphabets,
     characters: usize,
     pads: usize,
 }
@@ -26,7 +25,7 @@ struct Passed {
 }
 
 // So many characters of these alphabets were seen, to `end`, and no pad character.
-fn unpadded(alphabets: u8, characters: usize, end: usize) -> Passed
+fn unpadded(alphabets: Alphabets, characters: usize, end: usize) -> Passed
     ensures { (result.seen ≡ characters_seen alphabets characters) × (result.end ≡ end) }
 {
     let seen = Seen {
@@ -43,7 +42,7 @@ impl Seen {
         ensures { result ≡ nothing_seen }
     {
         Seen {
-            alphabets: 3,
+            alphabets: Alphabets::both(),
             characters: 0,
             pads: 0,
         }
@@ -72,13 +71,13 @@ impl Seen {
         }
         if self.pads == 0 {
             return Seen {
-                alphabets: self.alphabets & alphabet_bits(b),
+                alphabets: self.alphabets.shared(Alphabets::with(b)),
                 characters: self.characters + 1,
                 ..self
             };
         }
         Seen {
-            alphabets: 0,
+            alphabets: Alphabets::none(),
             characters: self.characters + 1,
             ..self
         }
@@ -113,8 +112,8 @@ impl Seen {
         // By the place, which is part of the answer: an iterator over rows would have to count it beside them.
         while ROW <= run.len() - i {
             let end = i + ROW;
-            let next = left & alphabets_of(&run[i..end]);
-            if next == 0 {
+            let next = left.shared(Alphabets::with_all(&run[i..end]));
+            if !next.some() {
                 return unpadded(left, characters + (i - at), i);
             }
             left = next;
@@ -137,7 +136,7 @@ impl Seen {
         ensures { result ≡ judged_seen self }
     {
         let n = self.characters;
-        ((self.alphabets != 0) & self.right_pads()).then_some(n / 4 * 3 + n % 4 * 3 / 4)
+        (self.alphabets.some() & self.right_pads()).then_some(n / 4 * 3 + n % 4 * 3 / 4)
     }
 }
 
@@ -155,7 +154,7 @@ pub fn judge(run: &[u8]) -> Option<usize>
         } = seen.rows(run, i);
         let end = at + BLOCK.min(run.len() - at);
         seen = before.all(&run[at..end]);
-        if seen.alphabets == 0 {
+        if !seen.alphabets.some() {
             return None;
         }
         i = end;

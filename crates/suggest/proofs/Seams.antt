@@ -1,22 +1,20 @@
--- For `surroundings`, `see_front`, `see_around` and `try_offset`: a text that is cut at an offset is its two parts, and what is known of the surroundings
+-- For `see_front`, `see_around` and `try_offset`: a text that is cut at an offset is its two parts, and what is known of the surroundings
 -- of a byte holds whatever byte stands there. By the laws of `Cuts`. Assumes nothing.
-use Rattle.std.specs.Prelude.{Option, Some}
+use Rattle.std.specs.Prelude.{Some}
 use mathlib.Core.Path.{◌≡◌, sym, ◌∙◌}
 use mathlib.Core.Bool.{true}
 use mathlib.Core.List.{List}
-use Prim.Native.Nat.{ℕ, ◌-◌, ◌≤◌, ◌<◌}
+use Prim.Native.Nat.{ℕ, ◌-◌, ◌<◌}
 use native.Mathlib.Nat.{add-zero}
 use native.Mathlib.Omega.{arith}
-use lib.Dec.{ltb}
-use lib.IntN.{ℤ, pos}
+use lib.IntN.{pos}
 use lib.ListN.{length, set, take, drop, take-append-drop, length-set}
-use lib.Seq.{length-take-le, get_or-take, get_or-drop, get_or-set_other, take-set-le, drop-set-lt, take-take}
+use lib.Seq.{length-take-le, get_or-take, get_or-drop, get_or-set_other, take-set-le, drop-set-lt}
 use Rattle.base.specs.Bytes.{byte}
 use Rattle.base.specs.Classes.{is_digit, is_lower_alpha}
-use Rattle.base.proofs.Tests.{by_cases, in_text, no_digit}
-use borrow.Author.Tests.{ltb-true, ltb-false}
+use Rattle.base.proofs.Tests.{in_text, no_digit}
 use Rattle.suggest.specs.Helpers.{seen_of, is_minus, join_seen, Seam}
-use Rattle.suggest.specs.Helpers.{CutBefore, CutAfter, Front, Cut, Surrounds}
+use Rattle.suggest.specs.Helpers.{Cut, Surrounds}
 use Rattle.suggest.specs.declared.pieces.Around.{Around}
 use Rattle.suggest.proofs.Cuts.{cut_seen, cut_minus}
 
@@ -45,26 +43,6 @@ module _ {text : List ℕ} {p : ℕ} (s : Seam text p) where
       sym (rw (take-append-drop p text) at (rw (← m) at c))
 
 -- ---- the surroundings of a byte
-
--- what is seen of a text's front before a piece, as of the text
-pub front_cut : {text : List ℕ} {a : Around} → Cut text a → Front (take a.end text) a.start a.head
-front_cut {text} {a} c =
-    let o = c.ordered in
-    let n = length-take-le a.end text c.inside in
-    record {
-      inside = omega arith;
-      before = λ h.
-          let b = c.before h in
-          let s = b.seam in
-          record {
-            seam = record {
-              some = h;
-              letter = rw (get_or-take a.end text (a.start - 1) 0 (omega arith)) s.letter;
-              digit = rw (get_or-take a.end text a.start 0 o) s.digit;
-            };
-            known = rw (take-take a.start a.end text (omega arith)) b.known;
-          };
-    }
 
 -- a cut stays where another byte is put
 seam_set : {run : List ℕ} {p : ℕ} (i b : ℕ) → (p ≡ i → ⊥) → (p - 1 ≡ i → ⊥) → Seam run p → Seam (set run i b) p
@@ -97,21 +75,4 @@ cut_set {run} {i} {a} b w =
             seam = seam_set i b (λ e. omega arith) (λ e. omega arith) d.seam;
             known = rw (drop-set-lt a.end run i b (omega arith)) d.known;
           };
-    }
-
--- what is seen before and behind the cuts round a byte
-pub surrounds : {run : List ℕ} {i start end : ℕ} {head tail : Option ℤ} → CutBefore run i start → CutAfter run i end → head ≡ seen_of (take start run)
-    → tail ≡ seen_of (drop end run) → Surrounds run i (record { start = start; end = end; head = head; tail = tail })
-surrounds {i = i} {start = start} f l p q =
-    let b : start ≤ i = by_cases (ltb 0 start) (λ t. omega (arith, (f (ltb-true 0 start t)).0)) (λ t. omega (arith, ltb-false 0 start t)) in
-    record {
-      cut = record {
-        ordered = omega (arith, l.behind);
-        inside = l.inside;
-        before = λ k. record { seam = (f k).1; known = p };
-        behind = λ k. record { seam = (l.seam k).1; known = q };
-      };
-      first = λ k. (f k).0;
-      last = λ k. (l.seam k).0;
-      inside = l.behind;
     }

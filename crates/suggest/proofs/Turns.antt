@@ -7,15 +7,14 @@ use native.Mathlib.Numerals.{add-one}
 use native.Mathlib.Omega.{arith}
 use lib.IntN.{ℤ}
 use lib.ListN.{length, set, length-set}
-use lib.Seq.{set-set, set-get_or}
-use Rattle.base.specs.Bytes.{byte}
+use lib.Seq.{set-set}
 use Rattle.limits.specs.Limits.{max_bytes_literal_length}
 use Rattle.suggest.specs.Suggestions.{seen_in, first_byte, byte_count, entry_by, candidate, at_offset, up_to, suggestions_of}
 use Rattle.suggestion_list.specs.Order.{put_all}
 use Rattle.suggestion_list.proofs.Orders.{put_all_append}
 use Rattle.suggest.specs.Calls.{longest_run}
 use Rattle.suggest.specs.Helpers.{Filled, Adds, ByteTried, OffsetTried, AllTried}
-use Rattle.suggest.proofs.Fills.{filled_none, adds_nothing, adds_none, adds_then, adds_offset}
+use Rattle.suggest.proofs.Fills.{filled_none, adds_nothing, adds_none, adds_then}
 
 -- the bytes before b were tried at the offset i of the run, whose byte there is any of them now
 pub record Trying (run₀ : List ℕ) (i : ℕ) (list₀ : List ℤ) (count : ℕ) (run : List ℕ) (list : List ℤ) (n b : ℕ) : Type 0 where
@@ -78,17 +77,6 @@ module _ {run₀ : List ℕ} {i : ℕ} {list₀ : List ℤ} {count : ℕ} where
           same = λ x. set-set run i b x ∙ t.same x;
           adds = rw (next_bytes, e) (adds_then t.adds (rw (t.same b) at (w.adds (rw length-set g))));
         }
-
-  -- all were tried
-  module _ {run : List ℕ} {list : List ℤ} {n b : ℕ} (t : Trying run₀ i list₀ count run list n b) (l : first_byte + byte_count ≤ b) where
-    pub trying_last : OffsetTried run₀ i list₀ count list n
-    trying_last =
-        let h = t.high in
-        let e : b - first_byte ≡ byte_count = omega arith in
-        record { few = omega (arith, t.few); adds = adds_offset (rw e at t.adds) }
-
-    pub trying_back : set run i (byte run₀ i) ≡ run₀
-    trying_back = t.same (byte run₀ i) ∙ set-get_or run₀ i 0
 
 -- the offsets before i were tried
 pub record Walking (run₀ : List ℕ) (list₀ : List ℤ) (run : List ℕ) (list : List ℤ) (count i : ℕ) : Type 0 where

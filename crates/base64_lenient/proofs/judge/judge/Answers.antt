@@ -2,6 +2,7 @@
 use mathlib.Core.Path.{◌∙◌}
 use Prim.Native.Nat.{◌+◌}
 use native.Mathlib.Omega.{arith}
+use Rattle.base.proofs.Tests.{told}
 use Rattle.base64_lenient.specs.Helpers.{SeenTo}
 use Rattle.base64_lenient.proofs.Sights.{seen_further}
 use Rattle.base64_lenient.proofs.Verdicts.{dead_is, judged_whole}
@@ -14,10 +15,10 @@ further c =
     let u = c.rows-at.ensures.0 in
     seen_further _ _ _ u _ (omega arith) (omega (arith, u.inside)) _ c.all-seen.ensures
 
-pub returns-then-seen-eq0 : goal.returns-then-seen-eq0
-returns-then-seen-eq0 c =
-    let at = goal.at.returns-then-seen-eq0 c in
-    dead_is _ _ _ (further at.After-all-seen) c.if-seen-eq0.true
+pub returns-then-not-some : goal.returns-then-not-some
+returns-then-not-some c =
+    let at = goal.at.returns-then-not-some c in
+    dead_is _ _ _ (further at.After-all-seen) (told _ c.some.ensures c.if-not-some.true)
 
 pub loop-i-preserved : goal.loop-i-preserved
 loop-i-preserved c =

@@ -5,7 +5,7 @@ use Rattle.suggest.specs.Suggestions.{first_byte, byte_count}
 use Rattle.suggest.proofs.Seams.{cut_set}
 use Rattle.suggest.proofs.TriedBytes.{tried_gives, skipped_none}
 use Rattle.suggest.proofs.Fills.{same_self, same_then}
-use Rattle.suggest.proofs.Turns.{trying_first, trying_none, trying_byte, trying_last, trying_back}
+use Rattle.suggest.proofs.Turns.{trying_first, trying_none, trying_byte}
 use Rattle.suggest.proofs.candidates.try_offset.Goals.{then-b-own, else-b-own}
 use Rattle.suggest.proofs.candidates.try_offset.Goals as goal
 
@@ -40,9 +40,3 @@ loop-b-preserved c =
                 (skipped_none a.run.now a.i l.b p.0 (omega (arith, p.1)) t.low in_range (rw (← c.can_stand.ensures) w.if-b-own.false)),
           )
     ]
-
-pub returns-clause-same_run : goal.returns-clause-same_run
-returns-clause-same_run c = trying_back c.loop-b.invariant.1 (omega (arith, c.loop-b-test.false))
-
-pub returns-clause-tried : goal.returns-clause-tried
-returns-clause-tried c = trying_last c.loop-b.invariant.1 (omega (arith, c.loop-b-test.false))

@@ -1,8 +1,7 @@
 -- `try_offsets` meets its contract: the offsets before this one were tried, and the copy of the run is as it was. Assumes nothing.
-use mathlib.Core.Path.{◌≡◌, ap}
+use mathlib.Core.Path.{◌≡◌}
 use mathlib.Core.List.{List}
 use Prim.Native.Nat.{ℕ, ◌≤◌}
-use native.Mathlib.Omega.{arith}
 use lib.ListN.{length, take}
 use lib.Seq.{sets, take-append_seam}
 use Rattle.base.proofs.Stores.{overlaid}
@@ -19,11 +18,6 @@ loop-i-init c =
     let run = c.args.run.bytes.now in
     let copied : take (length run) c.copy.new.buf ≡ run = rw c.copy.ensures (front _ run c.requires.0) in
     (same_self _, rw (copied, c.requires.1) walking_first)
-
-pub try_offset-requires : goal.try_offset-requires
-try_offset-requires c = let w = c.loop-i.invariant.1 in
-    let e = ap length w.same in
-    (omega (arith, e, c.loop-i-test.true), omega (arith, e), w.few)
 
 pub loop-i-preserved : goal.loop-i-preserved
 loop-i-preserved c =

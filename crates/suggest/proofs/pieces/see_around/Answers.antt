@@ -1,27 +1,14 @@
 -- `see_around` sees a text by what stands before its last cut and behind it, but for a zero under `-`. Assumes nothing.
-use mathlib.Core.Path.{sym, ◌∙◌}
+use mathlib.Core.Path.{◌∙◌}
 use native.Mathlib.Omega.{arith}
-use lib.Seq.{length-take-le, take-length}
 use Rattle.suggest.specs.Helpers.{TailSeen}
-use Rattle.suggest.proofs.Seams.{seam_seen, front_cut}
+use Rattle.suggest.proofs.Seams.{seam_seen}
 use Rattle.suggest.proofs.pieces.see_around.Goals.{Else-end-text}
 use Rattle.suggest.proofs.pieces.see_around.Goals as goal
 
 -- past the first test something stands behind the piece
 behind : (c : Else-end-text) → let a = c.args in TailSeen a.text.now a.a.end a.a.tail
 behind c = c.requires.behind (omega (arith, c.if-end-text.false, c.requires.inside))
-
-pub slice_bounds-see_front-end : goal.slice_bounds-see_front-end
-slice_bounds-see_front-end c = sym (length-take-le _ _ c.requires.inside)
-
-pub see_front-front-requires : goal.see_front-front-requires
-see_front-front-requires c = front_cut c.requires
-
-pub returns-then-end-text : goal.returns-then-end-text
-returns-then-end-text c = c.see_front-front.ensures ∙ rw (c.if-end-text.true, take-length)
-
-pub returns-then-is_minus_zero : goal.returns-then-is_minus_zero
-returns-then-is_minus_zero c = c.see.ensures
 
 pub returns : goal.returns
 returns c =

@@ -14,15 +14,6 @@ use Rattle.suggest.proofs.pieces.see_front.Goals as goal
 cut : (c : Else-start-is_minus_zero) → let a = c.args in HeadSeen a.text.now a.start a.head
 cut c = c.requires.before (pos_of_ne-zero (eqb-false _ _ (or_left (eqb c.args.start 0) c.is_minus_zero.result c.if-start-is_minus_zero.false)))
 
-pub returns-then-start-is_minus_zero : goal.returns-then-start-is_minus_zero
-returns-then-start-is_minus_zero c = c.see.ensures
-
-pub slice_bounds-see-count : goal.slice_bounds-see-count
-slice_bounds-see-count c = c.requires.inside
-
-pub slice_bounds-see-start : goal.slice_bounds-see-start
-slice_bounds-see-start c = c.requires.inside
-
 pub returns : goal.returns
 returns c =
     let at = goal.at.returns c in

@@ -10,7 +10,7 @@ pub returns-then-self-in_both : goal.returns-then-self-in_both
 returns-then-self-in_both c = let x = eqb c.args.self.pads 0 in
     let y = c.in_both.result in
     let e = c.if-self-in_both.true in
-    sym (seen_both _ _ c.requires.bits (eqb-true _ _ (and_left x y e)) (told y c.in_both.ensures (and_right x y e)))
+    sym (seen_both _ _ (eqb-true _ _ (and_left x y e)) (told y c.in_both.ensures (and_right x y e)))
 
 pub returns-then-b : goal.returns-then-b
 returns-then-b c = sym (seen_break _ _ c.if-b.true)
@@ -19,7 +19,7 @@ pub returns-then-b-eq61 : goal.returns-then-b-eq61
 returns-then-b-eq61 c = sym (seen_pad _ _ c.if-b.false (eq-eqb _ _ c.if-b-eq61.true))
 
 pub returns-then-self-eq0 : goal.returns-then-self-eq0
-returns-then-self-eq0 c = rw c.alphabet_bits.ensures (sym (seen_character _ _ c.if-b.false (ne_eqb _ _ c.if-b-eq61.false) c.if-self-eq0.true))
+returns-then-self-eq0 c = rw (c.shared.ensures, c.with.ensures) (sym (seen_character _ _ c.if-b.false (ne_eqb _ _ c.if-b-eq61.false) c.if-self-eq0.true))
 
 pub returns : goal.returns
-returns c = sym (seen_late _ _ c.if-b.false (ne_eqb _ _ c.if-b-eq61.false) (ne_eqb _ _ c.if-self-eq0.false))
+returns c = rw c.none.ensures (sym (seen_late _ _ c.if-b.false (ne_eqb _ _ c.if-b-eq61.false) (ne_eqb _ _ c.if-self-eq0.false)))

@@ -8,9 +8,9 @@ use Rattle.base64_lenient.specs.declared.alphabet.Alphabets.{Alphabets}
 use Rattle.base64_lenient.specs.declared.judge.Seen.{Seen}
 use Rattle.base64_lenient.specs.declared.decode.Group.{Group}
 
--- Types of the code (src/alphabet.rt, src/judge.rt, src/decode.rt). `Alphabets`: which of the two. `Seen`: which alphabets have all characters of what was seen, and how many characters and
--- pad characters it has. `Passed`: what was seen, and where it ends. `Group`: the values of at most four characters, how many they are, and where
--- they end.
+-- Types of the code (src/alphabet.rt, src/judge.rt, src/decode.rt). `Alphabets`: which of the two. `Seen`: which of them have all characters of what was
+-- seen, and how many characters and pad characters it has. `Passed`: what was seen, and where it ends. `Group`: the values of at most four characters, how
+-- many they are, and where they end.
 
 -- ---- judging
 

@@ -112,7 +112,7 @@ has_marks s = (is_at 43 s (secfrac_end s) || is_at 45 s (secfrac_end s)) && is_a
 
 pub offset_steps : (s : List ℕ) → time_offset s
     ≡ pick (is_at 90 s (secfrac_end s)) (pick (eqb (length s) (secfrac_end s + 1)) (Some 0) None)
-    (pick (not (has_marks s) || not (eqb (length s) (secfrac_end s + 6))) None (numoffset_by_steps s))
+    (pick (has_marks s && eqb (length s) (secfrac_end s + 6)) (numoffset_by_steps s) None)
 unfolding time_offset is_z is_numoffset is_offset_hour is_offset_minute has_sign
 offset_steps s =
     let z = secfrac_end s in
@@ -127,7 +127,7 @@ offset_steps s =
     )
     (simp step (go (is_at 43 s z || is_at 45 s z) (is_at 58 s (z + 3)) (eqb (length s) (z + 6)) (is_pair 0 24 s (z + 1)) (is_pair 0 60 s (z + 4)) _)))
   where
-    go : (w c l h m : Bool) (x : Option ℕ) → pick (((w && h) && (c && m)) && l) x None ≡ pick (not (w && c) || not l) None (pick h (pick m x None) None)
+    go : (w c l h m : Bool) (x : Option ℕ) → pick (((w && h) && (c && m)) && l) x None ≡ pick ((w && c) && l) (pick h (pick m x None) None) None
     go false c l h m x = refl
     go true false l h m x = rw (and-false h)
     go true true false h m x = rw (and-false (h && m))
@@ -149,6 +149,8 @@ pub instant_steps : (s : List ℕ) → date_of s ≡ instant_by_steps s
 unfolding date_by is_date_time is_t full_date partial_time time_offset local_seconds
 instant_steps s =
     by_cases (is_offset parse_grammar s)
-    (λ e. let l : days_to (year_of s) (month_of s) (day_of s) * 86400 + (hour_of s * 3600 + minute_of s * 60 + second_of s) ≡ local_seconds s = omega arith in
-    simp (e, step, pick_and, and-true, and-false, or-false, l, seconds_are s e))
+    (λ e. simp (e, step, pick_and, and-true, and-false, or-false, local, seconds_are s e))
     (λ e. simp (e, step, and-false, pick_same))
+  where
+    local : days_to (year_of s) (month_of s) (day_of s) * 86400 + (hour_of s * 3600 + minute_of s * 60 + second_of s) ≡ local_seconds s
+    local = omega arith

@@ -168,7 +168,7 @@ impl<'a> FullTime<'a> {
             return (s.len() == z + 1).then_some(0);
         }
         let marks = ((mark == b'+') | (mark == b'-')) & (peek(s, z + 3) == b':');
-        if !marks | (s.len() != z + 6) {
+        if !(marks & (s.len() == z + 6)) {
             return None;
         }
         let hour = pair(peek(s, z + 1), peek(s, z + 2), 0, 24)?;

@@ -9,13 +9,13 @@ use lib.Dec.{ltb, eqb}
 use lib.IntN.{ℤ}
 use lib.ListN.{length}
 use borrow.Author.Tests.{ltb-true, ltb-false, lt-ltb, le-ltb}
+use Rattle.std.specs.Prelude.{Result, Ok, Err}
 use Rattle.base.specs.Choice.{pick}
 use Rattle.base.proofs.Tests.{pick_case}
 use Rattle.limits.specs.Limits.{max_message_size}
 use Rattle.utf8.specs.Grammar.{Octets}
 use Rattle.utf8.specs.Check.{check_of}
-use Rattle.utf8.specs.declared.check.Verdict.{Verdict}
-use Rattle.utf8.specs.declared.check.Verdict.TheVariants.{WellFormed, IllFormed}
+use Rattle.utf8.specs.declared.check.Utf8Error.{Utf8Error}
 use Rattle.utf8.proofs.Valid.{checked}
 use Rattle.token.specs.Layout.{record_width, report_width}
 use Rattle.reading.specs.Buffers.{Laid, Lays}
@@ -45,34 +45,34 @@ untouched r l T S R =
 module _ (text : List ℕ) where
   -- the three answers of the checks, each under its condition
   pub judge_case : (P : Judged → Type 0) → (max_message_size < length text → P (Unfit TooLong))
-      → ((n : ℕ) → length text ≤ max_message_size → check_of text ≡ IllFormed n → P (Unfit (NotUtf8 n)))
-      → (length text ≤ max_message_size → check_of text ≡ WellFormed → P Fit) → P (judge_of text)
+      → ((n : ℕ) → length text ≤ max_message_size → check_of text ≡ Err (record { valid_up_to = n }) → P (Unfit (NotUtf8 n)))
+      → (length text ≤ max_message_size → check_of text ≡ Ok tt → P Fit) → P (judge_of text)
   unfolding judge_of
   judge_case P long ill fit = go (ltb max_message_size (length text)) (check_of text) refl refl
     where
-      go : (b : Bool) (v : Verdict) → ltb max_message_size (length text) ≡ b → check_of text ≡ v
+      go : (b : Bool) (v : Result (Unit {0}) Utf8Error) → ltb max_message_size (length text) ≡ b → check_of text ≡ v
           → P (pick b (Unfit TooLong) (after_check v (λ n. Unfit (NotUtf8 n)) Fit))
       go true v p q = long (ltb-true _ _ p)
-      go false (IllFormed n) p q = ill n (ltb-false _ _ p) q
-      go false WellFormed p q = fit (ltb-false _ _ p) q
+      go false (Err e) p q = ill e.valid_up_to (ltb-false _ _ p) q
+      go false (Ok u) p q = fit (ltb-false _ _ p) q
 
   -- a text that fits is short enough and well formed
-  pub fitting : judge_of text ≡ Fit → (length text ≤ max_message_size) × (check_of text ≡ WellFormed)
+  pub fitting : judge_of text ≡ Fit → (length text ≤ max_message_size) × (check_of text ≡ Ok tt)
   fitting =
-      judge_case (λ (j : Judged). j ≡ Fit → (length text ≤ max_message_size) × (check_of text ≡ WellFormed))
+      judge_case (λ (j : Judged). j ≡ Fit → (length text ≤ max_message_size) × (check_of text ≡ Ok tt))
       (λ _ e. absurd (other e)) (λ n _ _ e. absurd (other e)) (λ h g e. (h, g))
     where
       other : {x : Refusal} → Unfit x ≡ Fit → ⊥
       other e = let z : ◌≡◌ {A = ℕ} 0 1 = cc in omega arith
 
   -- and such a text fits
-  pub fits : length text ≤ max_message_size → check_of text ≡ WellFormed → judge_of text ≡ Fit
+  pub fits : length text ≤ max_message_size → check_of text ≡ Ok tt → judge_of text ≡ Fit
   unfolding judge_of
   fits h g = rw (le-ltb _ _ h, g)
 
   -- a text that passes the check is well formed by the grammar
-  pub well_octets : check_of text ≡ WellFormed → Octets text
-  well_octets g = (checked text WellFormed (sym g)).whole refl
+  pub well_octets : check_of text ≡ Ok tt → Octets text
+  well_octets g = (checked text (Ok tt) (sym g)).whole refl
 
 module _ {A : Type 0} (P : A → Type 0) (refuse : Refusal → A) {a : A} where
   -- after checks 1 and 2

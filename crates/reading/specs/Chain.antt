@@ -1,9 +1,8 @@
 -- One token after the other by `read_token`, each from the place at the end of the one before, against the whole reading.
-use Rattle.std.specs.Prelude.{◌≡◌, List, [], ◌∷◌, ◌++◌, ℕ, ◌+◌, ◌*◌, ◌≤◌, ◌<◌, eqb, ℤ, length, take}
+use Rattle.std.specs.Prelude.{◌≡◌, List, [], ◌∷◌, ◌++◌, ℕ, ◌+◌, ◌*◌, ◌≤◌, ◌<◌, eqb, ℤ, length, take, Ok}
 use Rattle.base.specs.Choice.{pick}
 use Rattle.limits.specs.Limits.{max_message_size}
 use Rattle.utf8.specs.Check.{check_of}
-use Rattle.utf8.specs.declared.check.Verdict.TheVariants.{WellFormed}
 use Rattle.token.specs.Kind.{eof_number, string_number}
 use Rattle.token.specs.Layout.{record_width, report_width}
 use Rattle.token.specs.Place.{first_place}
@@ -15,7 +14,7 @@ use Rattle.reading.specs.Buffers.{record_rows, report_rows, Laid, whole_laid}
 use Rattle.reading.specs.Calls.{ReadsToken}
 use Rattle.reading.specs.declared.one.ReadToken.TheVariants.{One}
 
--- Types that other files explain: `Verdict` in utf8/specs/Check.antt; `Record`, `Report` in token/specs/Layout.antt; `Place` in token/specs/Place.antt;
+-- Types that other files explain: `Record`, `Report` in token/specs/Layout.antt; `Place` in token/specs/Place.antt;
 -- `Reading` in lexer/specs/Reading.antt; `ReadToken` in Answers.antt.
 
 -- what a call lays of one token
@@ -78,5 +77,5 @@ ChainGivesWhole m limit text = (l : Laid) → Calls m limit text 0 first_place l
 -- and no call of them is refused, where the text is one that is read and each call is lent room for any token of it
 abbrev pub ChainRuns : Reading → ℕ → List ℕ → Type 0
 ChainRuns m limit text =
-    length text ≤ max_message_size → check_of text ≡ WellFormed → (T : List ℤ) (S : List ℕ) (R : List ℤ) → record_width ≤ length T
+    length text ≤ max_message_size → check_of text ≡ Ok tt → (T : List ℤ) (S : List ℕ) (R : List ℤ) → record_width ≤ length T
     → length text ≤ length S → length text * report_width ≤ length R → Calls m limit text 0 first_place (whole_laid m limit text)

@@ -1,10 +1,9 @@
 -- The refusals of the calls on a text, by document 01's numbers and values.
-use Rattle.std.specs.Prelude.{Bool, not, ◌&&◌, List, [], ◌∷◌, ℕ, ◌*◌, leb, ltb, length}
+use Rattle.std.specs.Prelude.{Bool, not, ◌&&◌, List, [], ◌∷◌, ℕ, ◌*◌, leb, ltb, length, Result, Ok, Err}
 use Rattle.base.specs.Choice.{pick}
 use Rattle.limits.specs.Limits.{max_message_size}
 use Rattle.utf8.specs.Check.{check_of, inside_char}
-use Rattle.utf8.specs.declared.check.Verdict.{Verdict}
-use Rattle.utf8.specs.declared.check.Verdict.TheVariants.{WellFormed, IllFormed}
+use Rattle.utf8.specs.declared.check.Utf8Error.{Utf8Error}
 use Rattle.token.specs.Layout.{record_width, report_width}
 use Rattle.reading.specs.Buffers.{Laid}
 use Rattle.reading.specs.declared.refusal.Refusal.{Refusal}
@@ -14,7 +13,7 @@ use Rattle.reading.specs.declared.judge.Judged.TheVariants.{Fit, Unfit}
 
 -- Types of the code (src/refusal.rt, src/judge.rt). `Refusal`: `TooLong`, `NotUtf8 offset`, `NoPlace`, `TokensShort`, `StringsShort`, `ReportsShort`,
 -- numbered below. `Judged`, what the first two checks answer: `Fit`, or `Unfit refusal`.
--- Types that other files explain: `Verdict` in utf8/specs/Check.antt.
+-- Types that other files explain: `Utf8Error` in utf8/specs/Check.antt.
 
 -- document 01's number of each
 abbrev pub refusal_number : Refusal → ℕ
@@ -37,9 +36,9 @@ refusal_values ReportsShort = []
 -- ---- the checks, in their order: "Text calls check 1, 2, 3, 4, 5, 6"
 
 -- after the check of its bytes an ill-formed text gives its offset, a well-formed one goes on
-abbrev pub after_check {ℓ} : {A : Type ℓ} → Verdict → (ℕ → A) → A → A
-after_check WellFormed f a = a
-after_check (IllFormed n) f a = f n
+abbrev pub after_check {ℓ} : {A : Type ℓ} → Result (Unit {0}) Utf8Error → (ℕ → A) → A → A
+after_check (Ok u) f a = a
+after_check (Err e) f a = f e.valid_up_to
 
 -- checks 1 and 2: "the text exceeds 67,108,864 bytes", "the text isn't UTF-8 by RFC 3629"
 unfoldable pub judge_of : List ℕ → Judged

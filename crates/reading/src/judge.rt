@@ -4,7 +4,7 @@ ghost use Rattle.reading.specs.Refusals.{judge_of};
 
 use crate::refusal::Refusal;
 use limits::message_limit;
-use utf8::check::{Verdict, check};
+use utf8::check::check;
 
 // Whether a text is one that is read.
 #[derive(Clone, Copy)]
@@ -21,7 +21,7 @@ pub fn judge(text: &[u8]) -> Judged
         return Judged::Unfit(Refusal::TooLong);
     }
     match check(text) {
-        Verdict::WellFormed => Judged::Fit,
-        Verdict::IllFormed(at) => Judged::Unfit(Refusal::NotUtf8(at)),
+        Ok(()) => Judged::Fit,
+        Err(error) => Judged::Unfit(Refusal::NotUtf8(error.valid_up_to)),
     }
 }

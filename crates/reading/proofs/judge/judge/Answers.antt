@@ -8,10 +8,10 @@ pub returns-then-text-message_limit : goal.returns-then-text-message_limit
 unfolding judge_of
 returns-then-text-message_limit c = rw (lt-ltb _ _ (rw c.message_limit.ensures at c.if-text-message_limit.true))
 
-pub returns-in-WellFormed : goal.returns-in-WellFormed
+pub returns-in-Ok : goal.returns-in-Ok
 unfolding judge_of
-returns-in-WellFormed c = rw (le-ltb _ _ (rw c.message_limit.ensures at c.if-text-message_limit.false), sym c.check.ensures.same ∙ c.in-WellFormed.is)
+returns-in-Ok c = rw (le-ltb _ _ (rw c.message_limit.ensures at c.if-text-message_limit.false), sym c.check.ensures.same ∙ c.in-Ok.is)
 
-pub returns-in-IllFormed : goal.returns-in-IllFormed
+pub returns-in-Err : goal.returns-in-Err
 unfolding judge_of
-returns-in-IllFormed c = rw (le-ltb _ _ (rw c.message_limit.ensures at c.if-text-message_limit.false), sym c.check.ensures.same ∙ c.in-IllFormed.is)
+returns-in-Err c = rw (le-ltb _ _ (rw c.message_limit.ensures at c.if-text-message_limit.false), sym c.check.ensures.same ∙ c.in-Err.is)

@@ -6,17 +6,16 @@ ghost use Rattle.go_duration.specs.Parse.{parse_of};
 ghost use Rattle.utf8.specs.Grammar.{valid_to};
 ghost use Rattle.exports.specs.Durations.{verdict_of, value_after};
 
-use utf8::check::Verdict;
+use utf8::check::Utf8Error;
 
 // The offset of the first byte of the first ill-formed sequence, or the length of a text that has none.
 #[unsafe(no_mangle)]
 pub extern "C" fn utf8_check(text: &[u8]) -> u64
     ensures { result ≡ valid_to text.now }
 {
-    let found = utf8::check::check(text);
-    match found {
-        Verdict::WellFormed => text.len() as u64,
-        Verdict::IllFormed(offset) => offset as u64,
+    match utf8::check::check(text) {
+        Ok(()) => text.len() as u64,
+        Err(Utf8Error { valid_up_to }) => valid_up_to as u64,
     }
 }
 

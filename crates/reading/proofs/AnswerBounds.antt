@@ -13,7 +13,7 @@ use Rattle.token.specs.Layout.{record_width, report_width}
 use Rattle.token.specs.Place.{place_at}
 use Rattle.token.specs.declared.place.Place.{Place}
 use Rattle.token.proofs.Places.{place_moved}
-use Rattle.utf8.specs.declared.check.Verdict.TheVariants.{IllFormed}
+use Rattle.std.specs.Prelude.{Err}
 use Rattle.utf8.proofs.Valid.{checked}
 use Rattle.lexer.specs.Token.{next_token}
 use Rattle.lexer.specs.declared.next.Token.{Token}
@@ -49,7 +49,7 @@ unfit_small : (text : List ℕ) (x : Refusal) → judge_of text ≡ Err x → Ea
 unfit_small text x =
     judge_case text (λ (j : Result (Unit {0}) Refusal). j ≡ Err x → Each AtMost (refusal_values x)) (λ _ e. rw (sym (given e)) claim.none)
     (λ n h g e.
-    let w = (checked text (IllFormed n) (sym g)).first n refl in
+    let w = (checked text (Err (record { valid_up_to = n })) (sym g)).first (record { valid_up_to = n }) refl in
     let i : AtMost n = omega (arith, w.inside) in
     rw (sym (given e)) (claim.more i claim.none))
     (λ _ _ e. absurd cc)

@@ -13,7 +13,7 @@ use Rattle.base.specs.Choice.{pick}
 use Rattle.limits.specs.Limits.{max_message_size}
 use Rattle.utf8.specs.Grammar.{valid_to}
 use Rattle.utf8.specs.Check.{check_of}
-use Rattle.utf8.specs.declared.check.Verdict.TheVariants.{WellFormed}
+use Rattle.std.specs.Prelude.{Ok}
 use Rattle.utf8.proofs.Boundaries.{boundary_start, boundary_between, not_inside}
 use Rattle.utf8.proofs.Valid.{checked, whole_end_lem}
 use Rattle.token.specs.Kind.{kind_number, is_string}
@@ -100,9 +100,9 @@ module _ (m : Reading) (limit : ℕ) (text : List ℕ) where
 
   -- ---- no call is refused
 
-  module _ (h : length text ≤ max_message_size) (g : check_of text ≡ WellFormed) where
+  module _ (h : length text ≤ max_message_size) (g : check_of text ≡ Ok tt) where
     valid : valid_to text ≡ length text
-    valid = sym (whole_end_lem text WellFormed (checked text WellFormed (sym g)) refl)
+    valid = sym (whole_end_lem text (Ok tt) (checked text (Ok tt) (sym g)) refl)
 
     first_is_place : is_place text first_place ≡ true
     unfolding place_at

@@ -7,7 +7,7 @@ use Rattle.base.specs.Classes.{is_digit, is_lower_alpha, is_ident_start, is_iden
 use Rattle.base.specs.Digits.{value_from}
 use Rattle.utf8.specs.Grammar.{utf8_char, char_size, valid_to}
 use Rattle.utf8.specs.Check.{is_tail, char_end}
-use Rattle.utf8.specs.Character.{code_bits, decode_of, is_scalar, encode_of}
+use Rattle.utf8.specs.Character.{code_bits, code_of, is_scalar, encode_of}
 use Rattle.go_duration.specs.Fraction.{scale_of, product_of, nanos_of, add_digit, read_digits, frac_of, fraction_nanos}
 use Rattle.go_duration.specs.Units.{units, unit_of}
 use Rattle.go_duration.specs.Parse.{whole_end, has_point, fraction_start, fraction_end, unit_end, whole_of, part_unit}
@@ -37,7 +37,7 @@ use Rattle.reading.specs.Miniature.{cases, AsThePaperSays}
 
 pub miniature_holds : AsThePaperSays
 unfolding cases run reach walk past same_bytes is_digit is_lower_alpha is_ident_start is_ident_part is_duration_unit is_space utf8_char char_size
-    valid_to is_tail char_end code_bits decode_of is_scalar encode_of scale_of product_of nanos_of add_digit read_digits frac_of fraction_nanos units
+    valid_to is_tail char_end code_bits code_of is_scalar encode_of scale_of product_of nanos_of add_digit read_digits frac_of fraction_nanos units
     unit_of value_from whole_end has_point fraction_start fraction_end unit_end whole_of part_unit part_fraction digitless part_of sum_from with_sign
     unsigned parse_of mul div of_int to_unsigned pair_of is_pair is_fullyear is_full_date is_date_time date_by kind_number place_at report_of
     ends_timestamp unit_piece lex_line_comment open_end body_end open_comment lex_block_comment block_notes name_kind lex_ident directive

@@ -14,8 +14,7 @@ use Rattle.base.proofs.Tests.{pick_case}
 use Rattle.limits.specs.Limits.{max_message_size}
 use Rattle.utf8.specs.Grammar.{Octets}
 use Rattle.utf8.specs.Check.{check_of}
-use Rattle.utf8.specs.declared.check.Verdict.{Verdict}
-use Rattle.utf8.specs.declared.check.Verdict.TheVariants.{WellFormed, IllFormed}
+use Rattle.utf8.specs.declared.check.Utf8Error.{Utf8Error}
 use Rattle.utf8.proofs.Valid.{checked}
 use Rattle.token.specs.Layout.{record_width, report_width}
 use Rattle.reading.specs.Buffers.{Laid, Lays, counts_of}
@@ -43,31 +42,31 @@ untouched r l T S R =
 module _ (text : List ℕ) where
   -- the three answers of the checks, each under its condition
   pub judge_case : (P : Result (Unit {0}) Refusal → Type 0) → (max_message_size < length text → P (Err TooLong))
-      → ((n : ℕ) → length text ≤ max_message_size → check_of text ≡ IllFormed n → P (Err (NotUtf8 n)))
-      → (length text ≤ max_message_size → check_of text ≡ WellFormed → P (Ok tt)) → P (judge_of text)
+      → ((n : ℕ) → length text ≤ max_message_size → check_of text ≡ Err (record { valid_up_to = n }) → P (Err (NotUtf8 n)))
+      → (length text ≤ max_message_size → check_of text ≡ Ok tt → P (Ok tt)) → P (judge_of text)
   unfolding judge_of
   judge_case P long ill fit = go (ltb max_message_size (length text)) (check_of text) refl refl
     where
-      go : (b : Bool) (v : Verdict) → ltb max_message_size (length text) ≡ b → check_of text ≡ v
+      go : (b : Bool) (v : Result (Unit {0}) Utf8Error) → ltb max_message_size (length text) ≡ b → check_of text ≡ v
           → P (pick b (Err TooLong) (after_check v (λ n. Err (NotUtf8 n)) (Ok tt)))
       go true v p q = long (ltb-true _ _ p)
-      go false (IllFormed n) p q = ill n (ltb-false _ _ p) q
-      go false WellFormed p q = fit (ltb-false _ _ p) q
+      go false (Err e) p q = ill e.valid_up_to (ltb-false _ _ p) q
+      go false (Ok u) p q = fit (ltb-false _ _ p) q
 
   -- a text that fits is short enough and well formed
-  pub fitting : judge_of text ≡ Ok tt → (length text ≤ max_message_size) × (check_of text ≡ WellFormed)
+  pub fitting : judge_of text ≡ Ok tt → (length text ≤ max_message_size) × (check_of text ≡ Ok tt)
   fitting =
-      judge_case (λ (j : Result (Unit {0}) Refusal). j ≡ Ok tt → (length text ≤ max_message_size) × (check_of text ≡ WellFormed))
+      judge_case (λ (j : Result (Unit {0}) Refusal). j ≡ Ok tt → (length text ≤ max_message_size) × (check_of text ≡ Ok tt))
       (λ _ e. absurd cc) (λ n _ _ e. absurd cc) (λ h g e. (h, g))
 
   -- and such a text fits
-  pub fits : length text ≤ max_message_size → check_of text ≡ WellFormed → judge_of text ≡ Ok tt
+  pub fits : length text ≤ max_message_size → check_of text ≡ Ok tt → judge_of text ≡ Ok tt
   unfolding judge_of
   fits h g = rw (le-ltb _ _ h, g)
 
   -- a text that passes the check is well formed by the grammar
-  pub well_octets : check_of text ≡ WellFormed → Octets text
-  well_octets g = (checked text WellFormed (sym g)).whole refl
+  pub well_octets : check_of text ≡ Ok tt → Octets text
+  well_octets g = (checked text (Ok tt) (sym g)).whole refl
 
 -- the four answers of checks 4, 5 and 6, each under its condition
 pub room_checks : (P : Result (Unit {0}) Refusal → Type 0) (c : Counts) (nt ns nr : ℕ) → (nt < c.tokens * record_width → P (Err TokensShort))

@@ -3,7 +3,6 @@ use Rattle.std.specs.Prelude.{◌≡◌, List, [], ◌∷◌, ◌++◌, ℕ, ◌
 use Rattle.base.specs.Choice.{pick}
 use Rattle.limits.specs.Limits.{max_message_size}
 use Rattle.utf8.specs.Check.{check_of}
-use Rattle.utf8.specs.declared.check.Verdict.TheVariants.{WellFormed}
 use Rattle.token.specs.Kind.{eof_number, string_number}
 use Rattle.token.specs.Layout.{record_width, report_width}
 use Rattle.token.specs.Place.{first_place}
@@ -14,8 +13,8 @@ use Rattle.lexer.specs.declared.reading.Reading.{Reading}
 use Rattle.reading.specs.Buffers.{record_rows, report_rows, Laid, whole_laid}
 use Rattle.reading.specs.Calls.{ReadsToken}
 
--- Types that other files explain: `Verdict` in utf8/specs/Check.antt; `Record`, `Report` in token/specs/Layout.antt; `Place` in token/specs/Place.antt;
--- `Reading` in lexer/specs/Reading.antt; `OneToken` in Answers.antt.
+-- Types that other files explain: `Record`, `Report` in token/specs/Layout.antt; `Place` in token/specs/Place.antt; `Reading` in
+-- lexer/specs/Reading.antt; `OneToken` in Answers.antt.
 
 -- what a call lays of one token
 abbrev pub of_one : Record → List ℕ → List Report → Laid
@@ -77,5 +76,5 @@ ChainGivesWhole m limit text = (l : Laid) → Calls m limit text 0 first_place l
 -- and no call of them is refused, where the text is one that is read and each call is lent room for any token of it
 abbrev pub ChainRuns : Reading → ℕ → List ℕ → Type 0
 ChainRuns m limit text =
-    length text ≤ max_message_size → check_of text ≡ WellFormed → (T : List ℤ) (S : List ℕ) (R : List ℤ) → record_width ≤ length T
+    length text ≤ max_message_size → check_of text ≡ Ok tt → (T : List ℤ) (S : List ℕ) (R : List ℤ) → record_width ≤ length T
     → length text ≤ length S → length text * report_width ≤ length R → Calls m limit text 0 first_place (whole_laid m limit text)

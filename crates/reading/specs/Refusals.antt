@@ -3,8 +3,7 @@ use Rattle.std.specs.Prelude.{Bool, not, ◌&&◌, List, [], ◌∷◌, ℕ, ◌
 use Rattle.base.specs.Choice.{pick}
 use Rattle.limits.specs.Limits.{max_message_size}
 use Rattle.utf8.specs.Check.{check_of, inside_char}
-use Rattle.utf8.specs.declared.check.Verdict.{Verdict}
-use Rattle.utf8.specs.declared.check.Verdict.TheVariants.{WellFormed, IllFormed}
+use Rattle.utf8.specs.declared.check.Utf8Error.{Utf8Error}
 use Rattle.token.specs.Layout.{record_width, report_width}
 use Rattle.reading.specs.Buffers.{Laid, counts_of}
 use Rattle.reading.specs.declared.counts.Counts.{Counts}
@@ -12,7 +11,7 @@ use Rattle.reading.specs.declared.refusal.Refusal.{Refusal}
 use Rattle.reading.specs.declared.refusal.Refusal.TheVariants.{TooLong, NotUtf8, NoPlace, TokensShort, StringsShort, ReportsShort}
 
 -- Types of the code (src/refusal.rt). `Refusal`: `TooLong`, `NotUtf8 offset`, `NoPlace`, `TokensShort`, `StringsShort`, `ReportsShort`, numbered below.
--- Types that other files explain: `Verdict` in utf8/specs/Check.antt; `Counts` in Buffers.antt.
+-- Types that other files explain: `Utf8Error` in utf8/specs/Check.antt; `Counts` in Buffers.antt.
 
 -- document 01's number of each
 abbrev pub refusal_number : Refusal → ℕ
@@ -35,9 +34,9 @@ refusal_values ReportsShort = []
 -- ---- the checks, in their order: "Text calls check 1, 2, 3, 4, 5, 6"
 
 -- after the check of its bytes an ill-formed text gives its offset, a well-formed one goes on
-abbrev pub after_check {ℓ} : {A : Type ℓ} → Verdict → (ℕ → A) → A → A
-after_check WellFormed f a = a
-after_check (IllFormed n) f a = f n
+abbrev pub after_check {ℓ} : {A : Type ℓ} → Result (Unit {0}) Utf8Error → (ℕ → A) → A → A
+after_check (Ok u) f a = a
+after_check (Err e) f a = f e.valid_up_to
 
 -- checks 1 and 2: "the text exceeds 67,108,864 bytes", "the text isn't UTF-8 by RFC 3629"
 unfoldable pub judge_of : List ℕ → Result (Unit {0}) Refusal

@@ -4,7 +4,7 @@ ghost use Rattle.reading.specs.Refusals.{judge_of};
 
 use crate::refusal::Refusal;
 use limits::message_limit;
-use utf8::check::{Verdict, check};
+use utf8::check::check;
 
 // Checks 1 and 2, in this order.
 #[tactic(auto, unfolding(crate::specs::Refusals::judge_of))]
@@ -15,7 +15,7 @@ pub fn judge(text: &[u8]) -> Result<(), Refusal>
         return Err(Refusal::TooLong);
     }
     match check(text) {
-        Verdict::WellFormed => Ok(()),
-        Verdict::IllFormed(at) => Err(Refusal::NotUtf8(at)),
+        Ok(()) => Ok(()),
+        Err(error) => Err(Refusal::NotUtf8(error.valid_up_to)),
     }
 }

@@ -17,7 +17,7 @@ use Rattle.lexeme.specs.declared.Mode.{Mode}
 use Rattle.lexeme.specs.declared.Mode.TheVariants.{Strict, Tolerant}
 use Rattle.utf8.specs.Grammar.{utf8_char, char_size}
 use Rattle.utf8.specs.Check.{is_tail, char_end}
-use Rattle.utf8.specs.Character.{code_bits, decode_of}
+use Rattle.utf8.specs.Character.{code_bits, code_of}
 use Rattle.go_duration.specs.Fraction.{scale_of, product_of, nanos_of, add_digit, read_digits, frac_of, fraction_nanos}
 use Rattle.go_duration.specs.Units.{units, unit_of}
 use Rattle.go_duration.specs.Parse.{whole_end, has_point, fraction_start, fraction_end, unit_end, whole_of, part_unit, part_fraction, digitless}
@@ -148,7 +148,7 @@ cases =
 
 worked : map (λ (c : Case). c.found) cases ≡ map (λ (c : Case). c.want) cases
 unfolding same_bytes is_digit is_lower_alpha is_ident_start is_ident_part is_duration_unit is_space runs.run runs.reach runs.walk runs.past utf8_char
-    char_size is_tail char_end code_bits decode_of scale_of product_of nanos_of add_digit read_digits frac_of fraction_nanos units unit_of value_from
+    char_size is_tail char_end code_bits code_of scale_of product_of nanos_of add_digit read_digits frac_of fraction_nanos units unit_of value_from
     whole_end has_point fraction_start fraction_end unit_end whole_of part_unit part_fraction digitless part_of sum_from with_sign unsigned parse_of mul
     div of_int to_unsigned is_leap month_length grammar.pair_of grammar.is_pair grammar.year_of grammar.is_fullyear grammar.is_full_date grammar.is_t
     grammar.hour_end grammar.is_hour grammar.is_second grammar.has_secfrac grammar.secfrac_end grammar.is_secfrac grammar.is_partial_time

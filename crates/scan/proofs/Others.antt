@@ -5,7 +5,7 @@ use native.Mathlib.Omega.{arith}
 use lib.ListN.{length}
 use Rattle.token.specs.Reason as reasons
 use Rattle.utf8.specs.Check.{char_end}
-use Rattle.utf8.specs.Character.{decode_of}
+use Rattle.utf8.specs.Character.{code_of}
 use Rattle.scan.specs.Other.{lex_other}
 use Rattle.utf8.proofs.Boundaries.{char_end_ge, char_end_le, char_end_boundary}
 use Rattle.utf8.proofs.Codes.{code_small}
@@ -16,4 +16,4 @@ unfolding lex_other
 other_scanned s h =
     illegal_scanned s (char_end s 1)
     (record { some = omega (arith, char_end_ge s 1); inside = char_end_le s 1 h; between = char_end_boundary s 1 h })
-    reasons.unexpected_character (decode_of s).code (omega arith) (code_small s)
+    reasons.unexpected_character (code_of s) (omega arith) (code_small s)

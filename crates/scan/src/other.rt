@@ -11,7 +11,6 @@ use utf8::check::char_end;
 pub fn lex_other(s: &[u8]) -> Lexeme
     ensures { result ≡ lex_other s.now }
 {
-    let found = decode(s);
-    let code = found.code;
+    let code = decode(s).map_or(0, |found| found.code);
     Lexeme::illegal(reason::UNEXPECTED_CHARACTER, code as usize, char_end(s, 1))
 }

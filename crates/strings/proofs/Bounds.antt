@@ -1,11 +1,14 @@
 -- For `lex_string`'s laws and the last copy of `put_string`: a literal gives no more bytes and reports than it takes bytes of text, and ends
 -- within it; a tolerant one never at a bad escape. By steps of `decode`. Assumes nothing.
 use mathlib.Core.Path.{◌≡◌, refl}
-use mathlib.Core.List.{List, [], ◌∷◌}
+use mathlib.Core.List.{List}
 use Prim.Native.Nat.{ℕ, ◌+◌, ◌-◌, ◌≤◌, ◌<◌}
 use native.Mathlib.Omega.{arith}
 use lib.Dec.{lit≤}
-use lib.ListN.{length, take, drop, length-append, length-drop}
+use lib.ListN.{length, drop, length-append, length-drop}
+use Rattle.base.specs.Bytes.{byte}
+use Rattle.utf8.specs.Character.{octets_of}
+use Rattle.utf8.specs.declared.character.Encoded.{Encoded}
 use Rattle.token.specs.Reason as reasons
 use Rattle.lexeme.specs.declared.Mode.{Mode}
 use Rattle.lexeme.specs.declared.Mode.TheVariants.{Strict, Tolerant}
@@ -14,7 +17,7 @@ use Rattle.strings.specs.Literal.{literal_of, end_reason, end_detail, literal_en
 use Rattle.strings.specs.declared.literal.End.{End}
 use Rattle.strings.specs.declared.literal.End.TheVariants as end
 use Rattle.strings.proofs.PieceFacts.{Taken}
-use Rattle.strings.proofs.Decodes.{from, Went, Named, Ended, length_four, by_steps}
+use Rattle.strings.proofs.Decodes.{from, Went, Named, Ended, by_steps}
 use Rattle.strings.proofs.Turns.{notes_le}
 
 -- what the text from i on stands for
@@ -40,15 +43,15 @@ bounds m s = by_steps m s (Bounds s) stops goes
     stops i e p h g u =
         record { bytes_in = omega arith; notes_in_lem = omega arith; upto = omega (arith, u.upto, length-drop i s); reason = reason_le m (drop i s) e u.named }
 
-    goes : (i n a b c d used reason : ℕ) (r : Decoded) → i ≤ length s → Went (drop i s) n b used reason → Bounds s (i + used) r
-        → Bounds s i (prepend (take n (a ∷ b ∷ c ∷ d ∷ [])) (step_notes reason b i) r)
-    goes i n a b c d used reason r h w v =
-        let t : Taken n used (length (drop i s)) = w.taken in
-        let bs : List ℕ = take n (a ∷ b ∷ c ∷ d ∷ []) in
-        let ns = step_notes reason b i in
+    goes : (i : ℕ) (enc : Encoded) (used reason : ℕ) (r : Decoded) → i ≤ length s → Went (drop i s) enc used reason → Bounds s (i + used) r
+        → Bounds s i (prepend (octets_of enc) (step_notes reason (byte enc.bytes 1) i) r)
+    goes i enc used reason r h w v =
+        let t : Taken enc.len used (length (drop i s)) = w.taken in
+        let bs : List ℕ = octets_of enc in
+        let ns = step_notes reason (byte enc.bytes 1) i in
         record {
-          bytes_in = omega (arith, length-append bs r.bytes, length_four n a b c d t.four, v.bytes_in);
-          notes_in_lem = omega (arith, length-append ns r.notes, notes_le reason b i, v.notes_in_lem);
+          bytes_in = omega (arith, length-append bs r.bytes, w.count, v.bytes_in);
+          notes_in_lem = omega (arith, length-append ns r.notes, notes_le reason (byte enc.bytes 1) i, v.notes_in_lem);
           upto = v.upto;
           reason = v.reason;
         }
@@ -81,4 +84,4 @@ pub tolerant_sound : (s : List ℕ) → 0 < length s → Sound s (literal_of Tol
 unfolding literal_of
 tolerant_sound s h =
     by_steps Tolerant s (λ (i : ℕ) (d : Decoded). Sound s d.ending) (λ i e p k g u. other_sound s e (λ r l q. absurd (rw q at u.named)))
-    (λ i n a b c d used reason r k w v. v) 1 h
+    (λ i enc used reason r k w v. v) 1 h

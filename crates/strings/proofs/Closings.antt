@@ -11,6 +11,7 @@ use lib.Dec.{eqb}
 use lib.ListN.{length, take, drop, length-append}
 use lib.Seq.{sets, length-sets}
 use Rattle.base.proofs.Tests.{and_left, and_right, zero_one}
+use Rattle.utf8.specs.Character.{octets_of}
 use Rattle.lexeme.specs.declared.Mode.{Mode}
 use Rattle.lexeme.specs.declared.Mode.TheVariants.{Strict}
 use Rattle.strings.specs.Piece.{piece_of}
@@ -20,7 +21,7 @@ use Rattle.strings.specs.declared.piece.Piece.{Piece}
 use Rattle.strings.specs.declared.piece.Piece.TheVariants as piece
 use Rattle.strings.specs.declared.literal.End.TheVariants as end
 use Rattle.strings.proofs.PieceFacts.{Taken, PieceFacts, piece_facts}
-use Rattle.strings.proofs.Decodes.{from, length_four}
+use Rattle.strings.proofs.Decodes.{from}
 use Rattle.strings.proofs.Turns.{Writing}
 use Rattle.strings.proofs.Bounds.{Bounds, bounds}
 
@@ -42,12 +43,12 @@ closing at zero (x ∷ l) z = rw (add-zero at) (go (piece_of (x ∷ l)) (piece_f
 
     go : (q : Piece) → PieceFacts (x ∷ l) q → ((k : ℕ) → (rest k).ending ≡ end.Closed → Closing (suc at + k) (drop k l) (rest k))
         → (follow (step_of Strict at q) at rest).ending ≡ end.Closed → Closing at (x ∷ l) (follow (step_of Strict at q) at rest)
-    go (piece.Bytes n a b c d used) f ih z =
+    go (piece.Bytes enc used) f ih z =
         let r : Decoded = rest (used - 1) in
         let v : Closing (suc at + (used - 1)) (drop (used - 1) l) r = ih (used - 1) z in
-        let t : Taken n used (length (x ∷ l)) = f.bytes in
-        let bs : List ℕ = take n (a ∷ b ∷ c ∷ d ∷ []) in
-        let k : length (bs ++ r.bytes) ≡ n + length r.bytes = length-append bs r.bytes ∙ rw (length_four n a b c d t.four) refl in
+        let t : Taken enc.len used (length (x ∷ l)) = f.bytes in
+        let bs : List ℕ = octets_of enc in
+        let k : length (bs ++ r.bytes) ≡ enc.len + length r.bytes = length-append bs r.bytes ∙ rw f.count refl in
         record {
           longer = omega (arith, v.longer);
           text = λ e.
@@ -55,8 +56,7 @@ closing at zero (x ∷ l) z = rw (add-zero at) (go (piece_of (x ∷ l)) (piece_f
               let y : used - 1 ≡ 0 = omega (arith, w.0) in
               let g : r.bytes ≡ take (length r.bytes) l =
               v.text (omega (arith, v.longer)) ∙ ap (λ (j : ℕ). take (length r.bytes) (drop j l)) y in
-              let o : n ≡ 1 = omega (arith, v.longer, w.0) in
-              rw (o, w.1) (ap (λ (j : List ℕ). x ∷ j) g);
+              rw w.1 (ap (λ (j : List ℕ). x ∷ j) g);
         }
     go (piece.Bad reason letter used) f ih z = zero_one (cc)
     go piece.Close f ih z = record { longer = omega arith; text = λ e. refl }

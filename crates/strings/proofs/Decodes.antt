@@ -8,18 +8,20 @@ use native.Mathlib.Nat.{add-zero, add-suc, suc-add}
 use native.Mathlib.Omega.{arith}
 use borrow.Author.Tests.{not-true, eqb-true}
 use lib.Dec.{eqb, lit≤, eqb-suc-zero}
-use lib.ListN.{length, drop, take, length-drop}
+use lib.ListN.{length, drop, take, length-take, length-drop}
 use lib.Seq.{drop-drop, length-take-le}
 use Rattle.base.specs.Choice.{pick}
 use Rattle.base.specs.Bytes.{byte}
 use Rattle.base.specs.Runs.{run, reach}
 use Rattle.base.proofs.Reaches.{reach_le, reach_ge}
 use Rattle.base.proofs.Tests.{and_left, and_right, pick_case, true_false}
+use Rattle.utf8.specs.Character.{octets_of}
+use Rattle.utf8.specs.declared.character.Encoded.{Encoded}
 use Rattle.token.specs.Reason as reasons
 use Rattle.lexeme.specs.Lexeme.{Note}
 use Rattle.lexeme.specs.declared.Mode.{Mode}
 use Rattle.lexeme.specs.declared.Mode.TheVariants.{Strict, Tolerant}
-use Rattle.strings.specs.Piece.{simple_of, escape_piece, piece_of}
+use Rattle.strings.specs.Piece.{simple_of, bytes_piece, escape_piece, piece_of}
 use Rattle.strings.specs.Plain.{is_ordinary, in_ordinary, simple_at, simple_bytes}
 use Rattle.strings.specs.Decode.{Decoded, step_of, step_notes, prepend, stopped, follow, decode}
 use Rattle.strings.specs.Literal.{end_reason}
@@ -34,10 +36,11 @@ use Rattle.strings.proofs.PieceFacts.{PieceFacts, Taken, Front, piece_facts}
 -- ---- what a step takes, and how it ends a literal
 
 -- a step that goes on, at the front of l
-pub record Went (l : List ℕ) (n b used reason : ℕ) : Type 0 where
-  pub taken : Taken n used (length l)
+pub record Went (l : List ℕ) (enc : Encoded) (used reason : ℕ) : Type 0 where
+  pub taken : Taken enc.len used (length l)
+  pub count : length (octets_of enc) ≡ enc.len
   pub small : reason ≤ reasons.unknown_escape
-  pub named : (reason ≡ reasons.none → ⊥) → b ≡ byte l 1
+  pub named : (reason ≡ reasons.none → ⊥) → byte enc.bytes 1 ≡ byte l 1
 
 -- the first k bytes of l end where a character can: at the end of l, after an ASCII byte or before one
 pub data Clean (l : List ℕ) (k : ℕ) : Type 0 where
@@ -67,7 +70,7 @@ pub record Ended (m : Mode) (l : List ℕ) (e : End) (k : ℕ) : Type 0 where
 
 -- what a step at the offset `at` is, l being left
 abbrev Apt : Mode → ℕ → List ℕ → Step → Type 0
-Apt m at l (Go n a b c d used reason) = Went l n b used reason
+Apt m at l (Go enc used reason) = Went l enc used reason
 Apt m at l (Stop e p) = (at ≤ p) × Ended m l e (p - at)
 
 -- a literal that ends after one ASCII byte, or before it
@@ -84,8 +87,8 @@ module _ (m : Mode) (at : ℕ) (l : List ℕ) (e : End) (named : Named m l e) (f
 
 apt : (m : Mode) (at : ℕ) (l : List ℕ) (q : Piece) → PieceFacts l q → Apt m at l (step_of m at q)
 unfolding step_of end_reason
-apt m at l (piece.Bytes n a b c d used) f = record { taken = f.bytes; small = lit≤ tt; named = λ z. absurd (z refl) }
-apt Tolerant at l (piece.Bad reason letter used) f = record { taken = f.bytes; small = f.high; named = λ _. f.named }
+apt m at l (piece.Bytes enc used) f = record { taken = f.bytes; count = f.count; small = lit≤ tt; named = λ z. absurd (z refl) }
+apt Tolerant at l (piece.Bad reason letter used) f = record { taken = f.bytes; count = refl; small = f.high; named = λ _. f.named }
 apt Strict at l (piece.Bad reason letter used) f =
     let k : at + used - at ≡ used = omega arith in (
       omega arith,
@@ -125,9 +128,6 @@ pub record Gives (m : Mode) (s : List ℕ) (i : ℕ) (bytes : List ℕ) (notes :
   pub inside : j ≤ length s
   pub is : from m s i ≡ prepend bytes notes (from m s j)
 
-pub length_four : (n a b c d : ℕ) → n ≤ 4 → length (take n (a ∷ b ∷ c ∷ d ∷ [])) ≡ n
-length_four n a b c d h = length-take-le n (a ∷ b ∷ c ∷ d ∷ []) h
-
 -- ---- a step
 
 module _ (m : Mode) (s : List ℕ) (i : ℕ) {q : Step} (is : q ≡ step_of m i (piece_of (drop i s))) where
@@ -137,13 +137,13 @@ module _ (m : Mode) (s : List ℕ) (i : ℕ) {q : Step} (is : q ≡ step_of m i 
   pub from_stop : {e : End} {p : ℕ} → q ≡ Stop e p → from m s i ≡ stopped e p
   from_stop h = decode_at m i (drop i s) ∙ rw (sym is ∙ h)
 
-  module _ {n a b c d used reason : ℕ} (h : q ≡ Go n a b c d used reason) where
-    pub went : Went (drop i s) n b used reason
+  module _ {enc : Encoded} {used reason : ℕ} (h : q ≡ Go enc used reason) where
+    pub went : Went (drop i s) enc used reason
     went = subst (λ (x : Step). Apt m i (drop i s) x) h fit
 
-    pub from_go : from m s i ≡ prepend (take n (a ∷ b ∷ c ∷ d ∷ [])) (step_notes reason b i) (from m s (i + used))
+    pub from_go : from m s i ≡ prepend (octets_of enc) (step_notes reason (byte enc.bytes 1) i) (from m s (i + used))
     from_go =
-        let t : Taken n used (length (drop i s)) = went.taken in
+        let t : Taken enc.len used (length (drop i s)) = went.taken in
         let l : List ℕ = drop i s in
         let k : used - 1 ≤ length (drop 1 l) = omega (arith, length-drop 1 l) in
         let x : suc i + (used - 1) ≡ i + used = omega arith in
@@ -152,32 +152,35 @@ module _ (m : Mode) (s : List ℕ) (i : ℕ) {q : Step} (is : q ≡ step_of m i 
         decode_skip m (suc i) (used - 1) (drop 1 l) k ∙ rw (drop-drop (used - 1) 1 l, x, y, drop-drop used i s) in
         decode_at m i l ∙ rw (sym is ∙ h, r)
 
-    pub step_four : n ≤ 4
+    pub step_four : enc.len ≤ 4
     step_four = went.taken.four
 
+    pub step_whole : 0 + enc.len ≤ length enc.bytes
+    step_whole = omega (arith, went.count, length-take enc.len enc.bytes)
+
     module _ (k : i ≤ length s) where
-      pub step_gives : Gives m s i (take n (a ∷ b ∷ c ∷ d ∷ [])) (step_notes reason b i) n (i + used)
+      pub step_gives : Gives m s i (octets_of enc) (step_notes reason (byte enc.bytes 1) i) enc.len (i + used)
       step_gives =
-          let t : Taken n used (length (drop i s)) = went.taken in
-          record { count = length_four n a b c d step_four; inside = omega (arith, length-drop i s); is = from_go }
+          let t : Taken enc.len used (length (drop i s)) = went.taken in
+          record { count = went.count; inside = omega (arith, length-drop i s); is = from_go }
 
       -- the measure of a loop that was at j
       pub step_less : (j : ℕ) → j ≤ i → length s - (i + used) < length s - j
-      step_less j g = let t : Taken n used (length (drop i s)) = went.taken in omega (arith, step_gives.inside)
+      step_less j g = let t : Taken enc.len used (length (drop i s)) = went.taken in omega (arith, step_gives.inside)
 
 -- ---- a claim of each step makes the claim of the whole
 
 module _ (m : Mode) (s : List ℕ) (P : ℕ → Decoded → Type 0)
     (stops : (i : ℕ) (e : End) (p : ℕ) → i ≤ length s → i ≤ p → Ended m (drop i s) e (p - i) → P i (stopped e p))
-    (goes : (i n a b c d used reason : ℕ) (r : Decoded) → i ≤ length s → Went (drop i s) n b used reason → P (i + used) r
-    → P i (prepend (take n (a ∷ b ∷ c ∷ d ∷ [])) (step_notes reason b i) r)) where
+    (goes : (i : ℕ) (enc : Encoded) (used reason : ℕ) (r : Decoded) → i ≤ length s → Went (drop i s) enc used reason → P (i + used) r
+    → P i (prepend (octets_of enc) (step_notes reason (byte enc.bytes 1) i) r)) where
   step : (n i : ℕ) → length s ≤ i + n → i ≤ length s → ((j : ℕ) → length s + 1 ≤ j + n → j ≤ length s → P j (from m s j))
       → (q : Step) → q ≡ step_of m i (piece_of (drop i s)) → Apt m i (drop i s) q → P i (from m s i)
   step n i h k ih (Stop e p) is f = rw (from_stop m s i is refl) (stops i e p k f.0 f.1)
-  step n i h k ih (Go w a b c d used reason) is f =
-      let t : Taken w used (length (drop i s)) = f.taken in
+  step n i h k ih (Go enc used reason) is f =
+      let t : Taken enc.len used (length (drop i s)) = f.taken in
       rw (from_go m s i is refl)
-      (goes i w a b c d used reason (from m s (i + used)) k f (ih (i + used) (omega arith) (omega (arith, length-drop i s))))
+      (goes i enc used reason (from m s (i + used)) k f (ih (i + used) (omega arith) (omega (arith, length-drop i s))))
 
   along : (n i : ℕ) → length s ≤ i + n → i ≤ length s → P i (from m s i)
   along zero i h k = step zero i h k (λ j x y. absurd (omega arith)) (step_of m i (piece_of (drop i s))) refl (fit m s i refl)
@@ -190,7 +193,7 @@ module _ (m : Mode) (s : List ℕ) (P : ℕ → Decoded → Type 0)
 -- ---- bytes that stand for themselves
 
 -- one of them
-ordinary_piece : (x : ℕ) (l : List ℕ) → is_ordinary x ≡ true → piece_of (x ∷ l) ≡ piece.Bytes 1 x 0 0 0 1
+ordinary_piece : (x : ℕ) (l : List ℕ) → is_ordinary x ≡ true → piece_of (x ∷ l) ≡ bytes_piece (x ∷ []) 1
 unfolding is_ordinary piece_of
 ordinary_piece x l e =
     let p = not (eqb x 0x22) in
@@ -256,11 +259,11 @@ simple_le : (l : List ℕ) → 2 * length (simple_bytes l) ≤ length l
 simple_le = by_escapes (λ l v. 2 * length v ≤ length l) (λ l. omega arith) (λ x y l e ih. omega arith)
 
 -- an escape of one letter
-simple_piece : (x y : ℕ) (l : List ℕ) → eqb (simple_at x y) 0 ≡ false → piece_of (x ∷ y ∷ l) ≡ piece.Bytes 1 (simple_at x y) 0 0 0 2
+simple_piece : (x y : ℕ) (l : List ℕ) → eqb (simple_at x y) 0 ≡ false → piece_of (x ∷ y ∷ l) ≡ bytes_piece (simple_at x y ∷ []) 2
 unfolding simple_at piece_of escape_piece
 simple_piece x y l e = go (eqb x 0x5C) refl e
   where
-    go : (b : Bool) → eqb x 0x5C ≡ b → eqb (pick b (simple_of y) 0) 0 ≡ false → piece_of (x ∷ y ∷ l) ≡ piece.Bytes 1 (pick b (simple_of y) 0) 0 0 0 2
+    go : (b : Bool) → eqb x 0x5C ≡ b → eqb (pick b (simple_of y) 0) 0 ≡ false → piece_of (x ∷ y ∷ l) ≡ bytes_piece (pick b (simple_of y) 0 ∷ []) 2
     go true q f = let z = eqb-true x 0x5C q in rw (z, eqb-suc-zero (length l), f)
     go false q f = true_false true refl f
 

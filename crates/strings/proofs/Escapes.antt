@@ -1,4 +1,4 @@
--- For `encode_rune`, the escapes and `next_piece`: each return is a row of its definition; and the digits that `code_escape` has read, with
+-- For the escapes and `next_piece`: each return is a row of its definition; and the digits that `code_escape` has read, with
 -- those that are left, make the whole number. By the tests. Assumes nothing.
 use mathlib.Core.Path.{◌≡◌, refl, sym, ap, ◌∙◌}
 use mathlib.Core.Bool.{Bool, true, false, ◌&&◌}
@@ -8,57 +8,19 @@ use native.Mathlib.Nat.{pow-le-pow_right, pow-suc}
 use native.Mathlib.Numerals.{add-one}
 use native.Mathlib.Omega.{arith}
 use lib.Dec.{ltb, eqb, lit<, eqb-suc-suc}
-use lib.ListN.{length, drop, length-take, length-drop, get_or-eq_default}
-use lib.Seq.{drop-cons, get_or-drop, get_or-take}
-use borrow.Author.Tests.{le-ltb, lt-ltb, ltb-true, ltb-false, ne_eqb, eq-eqb, leb-true}
+use lib.ListN.{length, drop, length-drop}
+use lib.Seq.{drop-cons, get_or-drop}
+use borrow.Author.Tests.{le-ltb, lt-ltb, ltb-true, ne_eqb, eq-eqb, leb-true}
 use mir.Syntax.{w8, w32}
 use mir.Val.{Fits}
 use Rattle.base.specs.Choice.{pick}
 use Rattle.base.specs.Bytes.{byte, within}
 use Rattle.base.proofs.Tests.{and_left, and_right}
 use Rattle.utf8.specs.Character.{is_scalar, encode_of}
-use Rattle.utf8.specs.Helpers.{octets_of}
-use Rattle.utf8.specs.declared.character.Encoded.{Encoded}
 use Rattle.token.specs.Reason as reasons
 use Rattle.strings.specs.Piece.{hex_of, oct_of, simple_of, bytes_piece, hex_piece, oct_piece, hex_count, hex_value, code_piece, escape_piece, piece_of}
 use Rattle.strings.specs.declared.piece.Piece.{Piece}
-use Rattle.strings.specs.declared.piece.Piece.TheVariants.{Bytes, Bad, Close, Newline, Cut, Open}
-
--- ---- `encode_rune`
-
-module _ (r used : ℕ) (e : Encoded) (is : octets_of e ≡ encode_of r) where
-  -- a byte of the encoding of n octets is `encode`'s, and 0 past them
-  octet : (n k : ℕ) → length (encode_of r) ≡ n → byte (encode_of r) k ≡ pick (ltb k n) (byte (e.a ∷ e.b ∷ e.c ∷ e.d ∷ []) k) 0
-  octet n k l = go (ltb k n) refl
-    where
-      four : List ℕ
-      four = e.a ∷ e.b ∷ e.c ∷ e.d ∷ []
-
-      go : (b : Bool) → ltb k n ≡ b → byte (encode_of r) k ≡ pick b (byte four k) 0
-      go true q =
-          let h = ltb-true k n q in
-          rw (← is) (get_or-take e.len four k 0 (omega (arith, ap length is, length-take e.len four)))
-      go false q = let h = ltb-false k n q in get_or-eq_default (encode_of r) 0 (omega arith)
-
-  rune : (n : ℕ) → length (encode_of r) ≡ n
-      → Bytes n (pick (ltb 0 n) e.a 0) (pick (ltb 1 n) e.b 0) (pick (ltb 2 n) e.c 0) (pick (ltb 3 n) e.d 0) used ≡ bytes_piece (encode_of r) used
-  rune n l = rw (octet n 0 l, octet n 1 l, octet n 2 l, octet n 3 l, l)
-
-  pub rune_1 : (p : Piece) → r < 0x80 → p ≡ Bytes 1 e.a 0 0 0 used → p ≡ bytes_piece (encode_of r) used
-  unfolding encode_of
-  rune_1 p h q = q ∙ rune 1 (rw (lt-ltb r 0x80 h))
-
-  pub rune_2 : 0x80 ≤ r → r < 0x800 → Bytes 2 e.a e.b 0 0 used ≡ bytes_piece (encode_of r) used
-  unfolding encode_of
-  rune_2 l h = rune 2 (rw (le-ltb r 0x80 l, lt-ltb r 0x800 h))
-
-  pub rune_3 : 0x800 ≤ r → r < 0x10000 → Bytes 3 e.a e.b e.c 0 used ≡ bytes_piece (encode_of r) used
-  unfolding encode_of
-  rune_3 l h = rune 3 (rw (le-ltb r 0x80 (omega arith), le-ltb r 0x800 l, lt-ltb r 0x10000 h))
-
-  pub rune_4 : 0x10000 ≤ r → Bytes 4 e.a e.b e.c e.d used ≡ bytes_piece (encode_of r) used
-  unfolding encode_of
-  rune_4 l = rune 4 (rw (le-ltb r 0x80 (omega arith), le-ltb r 0x800 (omega arith), le-ltb r 0x10000 l))
+use Rattle.strings.specs.declared.piece.Piece.TheVariants.{Bad, Close, Newline, Cut, Open}
 
 -- a valid code point is one that `encode` takes
 pub valid_low : (r : ℕ) (b : Bool) → b ≡ is_scalar r → b ≡ true → r ≤ 0x10FFFF
@@ -96,12 +58,12 @@ module _ (h k : ℕ) where
 -- t says whether both are digits
 module _ (l : List ℕ) (x y : ℕ) (ex : x ≡ byte l 2) (ey : y ≡ byte l 3) (p : Piece) (h k : ℕ) (t : Bool) where
   pub hex_row : h ≡ hex_of x → k ≡ hex_of y → ltb h 16 && ltb k 16 ≡ t
-      → p ≡ pick t (Bytes 1 (h * 16 + k) 0 0 0 4) (Bad reasons.bad_x 0x78 2) → p ≡ hex_piece l
+      → p ≡ pick t (bytes_piece ((h * 16 + k) ∷ []) 4) (Bad reasons.bad_x 0x78 2) → p ≡ hex_piece l
   unfolding hex_piece
   hex_row eh ek et e = rw (← ex, ← ey, ← eh, ← ek, et) e
 
   pub oct_row : (f : ℕ) → h ≡ oct_of x → k ≡ oct_of y → ltb h 8 && ltb k 8 ≡ t
-      → p ≡ pick t (Bytes 1 ((f - 48) * 64 + h * 8 + k) 0 0 0 4) (Bad reasons.bad_octal f 2) → p ≡ oct_piece f l
+      → p ≡ pick t (bytes_piece (((f - 48) * 64 + h * 8 + k) ∷ []) 4) (Bad reasons.bad_octal f 2) → p ≡ oct_piece f l
   unfolding oct_piece
   oct_row f eh ek et e = rw (← ex, ← ey, ← eh, ← ek, et) e
 
@@ -203,7 +165,7 @@ module _ (n : ℕ) (t : List ℕ) (r k : ℕ) (long : n + 2 ≤ length t) (u : R
 -- ---- `escape`
 
 module _ (l : List ℕ) (s : ℕ) (es : s ≡ simple_of (byte l 1)) where
-  pub esc_simple : (p : Piece) → (s ≡ 0 → ⊥) → p ≡ Bytes 1 s 0 0 0 2 → p ≡ escape_piece l
+  pub esc_simple : (p : Piece) → (s ≡ 0 → ⊥) → p ≡ bytes_piece (s ∷ []) 2 → p ≡ escape_piece l
   unfolding escape_piece
   esc_simple p n e = simp (e, ← es, ne_eqb s 0 n)
 
@@ -245,7 +207,7 @@ pub at_more : (t : List ℕ) → (length t ≡ 0 → ⊥)
     → piece_of t
     ≡ pick (eqb (byte t 0) 0x22) Close
     (pick (eqb (byte t 0) 0x0A) Newline
-    (pick (eqb (byte t 0) 0x5C) (pick (eqb (length t) 1) Cut (escape_piece t)) (Bytes 1 (byte t 0) 0 0 0 1)))
+    (pick (eqb (byte t 0) 0x5C) (pick (eqb (length t) 1) Cut (escape_piece t)) (bytes_piece (byte t 0 ∷ []) 1)))
 unfolding piece_of
 at_more [] n = absurd (n refl)
 at_more (x ∷ l) n = rw (eqb-suc-suc (length l) 0)

@@ -1,14 +1,15 @@
 -- For `lex_strict` and `lex_tolerant`: what they make of what is measured is a row of `lex_string`. By the measured state. Assumes nothing.
 use mathlib.Core.Path.{◌≡◌, refl, sym, ap, ◌∙◌}
+use mathlib.Core.Bool.{Bool, true, false, not}
 use mathlib.Core.List.{List}
 use Prim.Native.Nat.{ℕ, ◌+◌, ◌^◌, ◌≤◌, ◌<◌}
 use native.Mathlib.Omega.{arith}
-use borrow.Author.Tests.{eq-eqb, ne_eqb}
-use lib.Dec.{eqb}
+use borrow.Author.Tests.{eq-eqb, ne_eqb, not-true, not-false}
 use lib.ListN.{length, length-append}
 use mir.Syntax.{w64}
 use mir.Val.{Fits}
-use Rattle.utf8.specs.State.{fresh}
+use Rattle.utf8.specs.State.{is_between}
+use Rattle.utf8.specs.declared.state.State.TheVariants.{Between}
 use Rattle.utf8.proofs.States.{state_law}
 use Rattle.token.specs.Reason as reasons
 use Rattle.token.specs.declared.kind.TokenKind.TheVariants as K
@@ -22,8 +23,8 @@ use Rattle.strings.specs.declared.literal.Measure.{Measure}
 use Rattle.strings.proofs.Bounds.{Bounds, literal_bounds, Sound, zero_sound, tolerant_sound}
 
 -- the state that is measured says whether the bytes are UTF-8
-module _ (d : Decoded) (m : Measure) (em : m ≡ measured 0 0 fresh d) where
-  formed : well_formed d.bytes ≡ eqb m.state.need 0
+module _ (d : Decoded) (m : Measure) (em : m ≡ measured 0 0 Between d) where
+  formed : well_formed d.bytes ≡ is_between m.state
   unfolding well_formed
   formed = state_law d.bytes ∙ rw em refl
 
@@ -39,7 +40,7 @@ module _ (d : Decoded) (m : Measure) (em : m ≡ measured 0 0 fresh d) where
   reported : m.reports ≡ length d.notes
   reported = rw em (omega arith)
 
-module _ (s : List ℕ) (m : Measure) (em : m ≡ measured 0 0 fresh (literal_of Strict s)) (reason : ℕ) (er : reason ≡ end_reason m.end) where
+module _ (s : List ℕ) (m : Measure) (em : m ≡ measured 0 0 Between (literal_of Strict s)) (reason : ℕ) (er : reason ≡ end_reason m.end) where
   same_reason : end_reason (literal_of Strict s).ending ≡ reason
   same_reason = rw (← ended (literal_of Strict s) m em) (sym er)
 
@@ -53,19 +54,19 @@ module _ (s : List ℕ) (m : Measure) (em : m ≡ measured 0 0 fresh (literal_of
     sound : Sound s (literal_of Strict s).ending
     sound = zero_sound s (literal_of Strict s).ending (same_reason ∙ z)
 
-    pub strict_ill : (r : Lexeme) → (m.state.need ≡ 0 → ⊥) → r ≡ illegal reasons.string_not_utf8 0 m.stop → r ≡ lex_string Strict s
+    pub strict_ill : (x : Bool) → x ≡ is_between m.state → not x ≡ true → (r : Lexeme) → r ≡ illegal reasons.string_not_utf8 0 m.stop → r ≡ lex_string Strict s
     unfolding lex_string literal_reason literal_notes
-    strict_ill r n e =
+    strict_ill x y n r e =
         let d : Decoded = literal_of Strict s in
-        e ∙ simp (same_reason, eq-eqb reason reasons.none z, formed d m em, ne_eqb m.state.need 0 n, sound.detail, sound.stays, stopped d m em)
+        e ∙ simp (same_reason, eq-eqb reason reasons.none z, formed d m em, ← y, not-true x n, sound.detail, sound.stays, stopped d m em)
 
-    pub strict_string : (r : Lexeme) → m.state.need ≡ 0 → r ≡ extent K.String m.stop 0 m.count 0 → r ≡ lex_string Strict s
+    pub strict_string : (x : Bool) → x ≡ is_between m.state → not x ≡ false → (r : Lexeme) → r ≡ extent K.String m.stop 0 m.count 0 → r ≡ lex_string Strict s
     unfolding lex_string literal_reason literal_notes
-    strict_string r n e =
+    strict_string x y n r e =
         let d : Decoded = literal_of Strict s in
-        e ∙ simp (same_reason, eq-eqb reason reasons.none z, formed d m em, eq-eqb m.state.need 0 n, counted d m em, stopped d m em)
+        e ∙ simp (same_reason, eq-eqb reason reasons.none z, formed d m em, ← y, not-false x n, counted d m em, stopped d m em)
 
-module _ (s : List ℕ) (m : Measure) (em : m ≡ measured 0 0 fresh (literal_of Tolerant s)) (h : 0 < length s) (k : ℕ)
+module _ (s : List ℕ) (m : Measure) (em : m ≡ measured 0 0 Between (literal_of Tolerant s)) (h : 0 < length s) (k : ℕ)
     (ek : k ≡ length (end_notes m.end)) where
   noted : m.reports + k ≡ length (literal_notes Tolerant (literal_of Tolerant s))
   unfolding literal_notes
@@ -76,15 +77,15 @@ module _ (s : List ℕ) (m : Measure) (em : m ≡ measured 0 0 fresh (literal_of
   pub notes_fit : k ≤ 1 → length s < 2 ^ 64 → Fits w64 (m.reports + k)
   notes_fit l f = let b : Bounds s 1 (literal_of Tolerant s) = literal_bounds Tolerant s h in omega (arith, reported (literal_of Tolerant s) m em)
 
-  pub tolerant_string : (r : Lexeme) → m.state.need ≡ 0 → r ≡ extent K.String m.stop 0 m.count (m.reports + k) → r ≡ lex_string Tolerant s
+  pub tolerant_string : (x : Bool) → x ≡ is_between m.state → x ≡ true → (r : Lexeme) → r ≡ extent K.String m.stop 0 m.count (m.reports + k) → r ≡ lex_string Tolerant s
   unfolding lex_string literal_reason
-  tolerant_string r n e =
+  tolerant_string x y n r e =
       let d : Decoded = literal_of Tolerant s in
-      e ∙ simp (noted, formed d m em, eq-eqb m.state.need 0 n, counted d m em, stopped d m em)
+      e ∙ simp (noted, formed d m em, ← y, n, counted d m em, stopped d m em)
 
-  pub tolerant_ill : (r : Lexeme) → (m.state.need ≡ 0 → ⊥) → r ≡ illegal_reported reasons.string_not_utf8 0 m.stop (m.reports + k)
+  pub tolerant_ill : (x : Bool) → x ≡ is_between m.state → x ≡ false → (r : Lexeme) → r ≡ illegal_reported reasons.string_not_utf8 0 m.stop (m.reports + k)
       → r ≡ lex_string Tolerant s
   unfolding lex_string literal_reason
-  tolerant_ill r n e =
+  tolerant_ill x y n r e =
       let t : Sound s (literal_of Tolerant s).ending = tolerant_sound s h in
-      e ∙ simp (noted, formed (literal_of Tolerant s) m em, ne_eqb m.state.need 0 n, t.detail, t.stays, stopped (literal_of Tolerant s) m em)
+      e ∙ simp (noted, formed (literal_of Tolerant s) m em, ← y, n, t.detail, t.stays, stopped (literal_of Tolerant s) m em)

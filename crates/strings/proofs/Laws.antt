@@ -20,6 +20,7 @@ use Rattle.utf8.specs.Check.{char_end}
 use Rattle.utf8.proofs.Valid.{valid_octets}
 use Rattle.utf8.proofs.Boundaries.{boundary_at, ascii_boundary, char_end_ge, char_end_le, char_end_boundary}
 use Rattle.utf8.proofs.Concatenations.{ascii_no_tail}
+use Rattle.utf8.specs.declared.character.Encoded.{Encoded}
 use Rattle.token.specs.Reason as reasons
 use Rattle.token.specs.Helpers.{last_reason}
 use Rattle.token.specs.declared.kind.TokenKind.TheVariants as K
@@ -89,7 +90,7 @@ unfolding literal_of decode end_reason
 zero_closed [] z = absurd (omega arith)
 zero_closed (x ∷ s) z =
     by_steps Strict (x ∷ s) (λ (i : ℕ) (d : Decoded). end_reason d.ending ≡ reasons.none → d.ending ≡ end.Closed)
-    (λ i e p k g u. named_closed (drop i (x ∷ s)) e u.named) (λ i n a b c d used reason r k w v. v) 1 (omega arith) z
+    (λ i e p k g u. named_closed (drop i (x ∷ s)) e u.named) (λ i enc used reason r k w v. v) 1 (omega arith) z
 
 string_closed : (m : Mode) (s : List ℕ) → literal_reason m (literal_of m s) ≡ reasons.none → m ≡ Strict → (literal_of m s).ending ≡ end.Closed
 string_closed Strict s z e = zero_closed s (unreasoned (literal_of Strict s) z)
@@ -200,19 +201,20 @@ module _ (m : Mode) (s : List ℕ) (h : 0 < length s) where
   ending_detail Strict i (end.Bad reason letter) n bytes = letter_le reason letter (letter_in bytes i letter n.named)
   ending_detail Tolerant i (end.Bad reason letter) n bytes = absurd n
 
-  step_notes_lem : (i n b used reason : ℕ) → i ≤ length s → Went (drop i s) n b used reason → (x : Note) → Memᴰ x (step_notes reason b i) → NoteIn s x
+  step_notes_lem : (i : ℕ) (enc : Encoded) (used reason : ℕ) → i ≤ length s → Went (drop i s) enc used reason → (x : Note)
+      → Memᴰ x (step_notes reason (byte enc.bytes 1) i) → NoteIn s x
   unfolding step_notes
-  step_notes_lem i n b used reason k w x = go (eqb reason reasons.none) refl
+  step_notes_lem i enc used reason k w x = go (eqb reason reasons.none) refl
     where
       go : (z : Bool) → eqb reason reasons.none ≡ z
-          → Memᴰ x (pick z [] (record { reason = reason; detail = letter_detail reason b; offset = i + 1 } ∷ [])) → NoteIn s x
+          → Memᴰ x (pick z [] (record { reason = reason; detail = letter_detail reason (byte enc.bytes 1); offset = i + 1 } ∷ [])) → NoteIn s x
       go true e q = absurd (Memᴰ.not-nil q)
       go false e q =
-          let t : Taken n used (length (drop i s)) = w.taken in
+          let t : Taken enc.len used (length (drop i s)) = w.taken in
           rw (Memᴰ.eq_of_singleton q)
           (record {
             reason_in = omega (arith, w.small);
-            detail_in = λ bytes. letter_le reason b (letter_in bytes i b (w.named (eqb-false reason reasons.none e)));
+            detail_in = λ bytes. letter_le reason (byte enc.bytes 1) (letter_in bytes i (byte enc.bytes 1) (w.named (eqb-false reason reasons.none e)));
             offset_in = omega (arith, length-drop i s);
           })
 
@@ -226,8 +228,8 @@ module _ (m : Mode) (s : List ℕ) (h : 0 < length s) where
   lettered =
       by_steps m s (λ (i : ℕ) (d : Decoded). Lettered d)
       (λ i e p k g u. record { detail = ending_detail m i e u.named; noted = λ x q. absurd (Memᴰ.not-nil q) })
-      (λ i n a b c d used reason r k w v.
-      record { detail = v.detail; noted = λ x q. ⊎_elim (step_notes_lem i n b used reason k w x) (v.noted x) (Memᴰ.append_cases (step_notes reason b i) q) })
+      (λ i enc used reason r k w v.
+      record { detail = v.detail; noted = λ x q. ⊎_elim (step_notes_lem i enc used reason k w x) (v.noted x) (Memᴰ.append_cases (step_notes reason (byte enc.bytes 1) i) q) })
       1 h
 
   pub string_within : Within s (lex_string m s)
@@ -300,5 +302,5 @@ module _ (m : Mode) (s : List ℕ) (h : 0 < length s) (b : Boundary s 0) where
       let d : Decoded = literal_of m s in
       let v : Boundary s (literal_end s d.ending d.stop) =
       by_steps m s (λ (i : ℕ) (x : Decoded). Boundary s (literal_end s x.ending x.stop)) (λ i e p k g u. end_boundary i p k g e u)
-      (λ i n a b c d used reason r k w v. v) 1 h in
+      (λ i enc used reason r k w v. v) 1 h in
       by_verdict m s (λ r bs. Boundary s r.len) (λ z. rw ((string_sound m s h z).stays d.stop) at v) (λ _. v)

@@ -15,6 +15,9 @@ use mir.Val.{Fits}
 use Rattle.base.specs.Choice.{pick}
 use Rattle.base.specs.Runs.{reach}
 use Rattle.base.proofs.Reaches.{rest_is}
+use Rattle.base.specs.Bytes.{byte}
+use Rattle.utf8.specs.Character.{octets_of}
+use Rattle.utf8.specs.declared.character.Encoded.{Encoded}
 use Rattle.token.specs.Place.{place_at}
 use Rattle.token.specs.Helpers.{Walkable, ReportFits, last_reason}
 use Rattle.token.specs.Reason as reasons
@@ -136,11 +139,11 @@ module _ (text : List ℕ) (start : Place) (out₀ : List ℤ) (at : ℕ) (s : L
             → o ≡ sets out₀ at (string_numbers Tolerant text start.offset)
         noting_end o eo = eo ∙ sym (ran.store.is ∙ ap (sets out p) end_numbers)
 
-    module _ {n a b c d used reason : ℕ} (h : q ≡ Go n a b c d used reason) where
-      w : Went (drop e s) n b used reason
+    module _ {enc : Encoded} {used reason : ℕ} (h : q ≡ Go enc used reason) where
+      w : Went (drop e s) enc used reason
       w = went Tolerant s e is h
 
-      gives : Gives Tolerant s e (take n (a ∷ b ∷ c ∷ d ∷ [])) (step_notes reason b e) n (e + used)
+      gives : Gives Tolerant s e (octets_of enc) (step_notes reason (byte enc.bytes 1) e) enc.len (e + used)
       gives = step_gives Tolerant s e is h ran.inside
 
       long : length s ≡ length text - start.offset
@@ -172,7 +175,7 @@ module _ (text : List ℕ) (start : Place) (out₀ : List ℤ) (at : ℕ) (s : L
         note_small = w.small
 
         numbers : List ℤ
-        numbers = report_numbers (report_at (place_at text (start.offset + e + 1)) reason (letter_detail reason b))
+        numbers = report_numbers (report_at (place_at text (start.offset + e + 1)) reason (letter_detail reason (byte enc.bytes 1)))
 
         step_numbers : left text start s e ≡ numbers ++ left text start s (e + used)
         unfolding notes_numbers report_of step_notes numbers
@@ -186,7 +189,7 @@ module _ (text : List ℕ) (start : Place) (out₀ : List ℤ) (at : ℕ) (s : L
         note_fits l = omega (arith, note_room, ran.store.same)
 
         pub noting_note : (place₂ : Place) (o : List ℤ) → place₂ ≡ place_at text (start.offset + e + 1)
-            → o ≡ sets out p (report_numbers (report_at (place_at text (start.offset + e + 1)) reason (letter_detail reason b)))
+            → o ≡ sets out p (report_numbers (report_at (place_at text (start.offset + e + 1)) reason (letter_detail reason (byte enc.bytes 1))))
             → Noting text start out₀ at s o (e + used) (p + report_width) place₂
         unfolding numbers
         noting_note place₂ o ep eo =

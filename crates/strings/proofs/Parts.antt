@@ -244,8 +244,8 @@ pub record Parting (s : List ℕ) (i end count : ℕ) : Type 0 where
   pub rest : Octets (drop end s)
 
 -- where no character has begun, in what is decoded or in the text
-pub none_begun : (need : ℕ) (x : Bool) → not (eqb need 0) || x ≡ false → (need ≡ 0) × (x ≡ false)
-none_begun need x e = (eqb-true need 0 (not-false (eqb need 0) (or_left (not (eqb need 0)) x e)), or_right (not (eqb need 0)) x e)
+pub none_begun : (x y : Bool) → not x || y ≡ false → (x ≡ true) × (y ≡ false)
+none_begun x y e = (not-false x (or_left (not x) y e), or_right (not x) y e)
 
 pub parting_first : (s : List ℕ) (i : ℕ) → i ≤ length s → Octets s → inside_char s i ≡ false → Parting s i i 0
 unfolding inside_char

@@ -1,6 +1,6 @@
 -- Each piece takes at least one byte and no more than there are, and gives fewer than it takes, or one that stands for itself; a bad escape's
 -- letter stands second, and its last byte is ASCII but for unknown ones. For the laws of steps. By cases on the tests. Assumes nothing.
-use mathlib.Core.Path.{◌≡◌, refl, sym}
+use mathlib.Core.Path.{◌≡◌, refl, ap, sym}
 use mathlib.Core.Bool.{Bool, true, false, ◌&&◌}
 use mathlib.Core.List.{List, [], ◌∷◌}
 use Prim.Native.Nat.{ℕ, zero, suc, ◌+◌, ◌-◌, ◌≤◌, ◌<◌}
@@ -12,10 +12,11 @@ use lib.Seq.{get_or-drop}
 use Rattle.base.specs.Choice.{pick}
 use Rattle.base.specs.Bytes.{byte, within}
 use Rattle.base.proofs.Tests.{and_right, in_text, over, pick_case, true_false, within_high}
-use Rattle.utf8.specs.Character.{is_scalar}
-use Rattle.utf8.proofs.RoundTrip.{encode_length}
+use Rattle.utf8.specs.Character.{octets_of, encoded, is_scalar}
+use Rattle.utf8.specs.declared.character.Encoded.{Encoded}
+use Rattle.utf8.proofs.RoundTrip.{encode_length, octets_encoded}
 use Rattle.token.specs.Reason as reasons
-use Rattle.strings.specs.Piece.{hex_of, oct_of, simple_of, hex_piece, oct_piece, hex_count, hex_value, code_piece, escape_piece, piece_of}
+use Rattle.strings.specs.Piece.{hex_of, oct_of, simple_of, bytes_piece, hex_piece, oct_piece, hex_count, hex_value, code_piece, escape_piece, piece_of}
 use Rattle.strings.specs.declared.piece.Piece.{Piece}
 use Rattle.strings.specs.declared.piece.Piece.TheVariants.{Bytes, Bad, Close, Newline, Cut, Open}
 
@@ -26,13 +27,15 @@ pub record Taken (n used m : ℕ) : Type 0 where
   pub less : n ≤ used
   pub four : n ≤ 4
 
--- n bytes, the first being a, out of the first `used` of l: as many as these only where it is one that stands for itself
-pub record Given (l : List ℕ) (n a used : ℕ) : Type 0 where
-  pub bytes : Taken n used (length l)
-  pub own : n ≡ used → (used ≡ 1) × (a ≡ byte l 0)
+-- bytes out of the first `used` of l: as many as these only where it is one that stands for itself
+pub record Given (l : List ℕ) (enc : Encoded) (used : ℕ) : Type 0 where
+  pub bytes : Taken enc.len used (length l)
+  pub count : length (octets_of enc) ≡ enc.len
+  pub own : enc.len ≡ used → (used ≡ 1) × (octets_of enc ≡ byte l 0 ∷ [])
 
-escaped : (l : List ℕ) (n a used : ℕ) → Taken n used (length l) → n < used → Given l n a used
-escaped l n a used t h = record { bytes = t; own = λ e. absurd (omega arith) }
+escaped : (l v : List ℕ) (used : ℕ) → Taken (length v) used (length l) → length v < used → Given l (encoded v) used
+escaped l v used t h =
+    record { bytes = t; count = ap length (octets_encoded v t.four); own = λ e. absurd (omega arith) }
 
 -- a bad escape of `used` bytes at the front of l
 pub record Refused (l : List ℕ) (reason letter used : ℕ) : Type 0 where
@@ -52,7 +55,7 @@ pub record Front (l : List ℕ) : Type 0 where
   pub ascii : byte l 0 < 0x80
 
 abbrev pub PieceFacts : List ℕ → Piece → Type 0
-PieceFacts l (Bytes n a b c d used) = Given l n a used
+PieceFacts l (Bytes enc used) = Given l enc used
 PieceFacts l (Bad reason letter used) = Refused l reason letter used
 PieceFacts l Close = Front l
 PieceFacts l Newline = Front l
@@ -101,13 +104,13 @@ module _ (t : List ℕ) (two : 1 < length t) where
   -- two digits after the letter
   two_digits : (f : ℕ → ℕ) (base v reason letter : ℕ) → ltb (f 0) base ≡ false → reasons.bad_x ≤ reason → reason ≤ reasons.unknown_escape
       → letter ≡ byte t 1 → byte t 1 < 0x80
-      → PieceFacts t (pick (ltb (f (byte t 2)) base && ltb (f (byte t 3)) base) (Bytes 1 v 0 0 0 4) (Bad reason letter 2))
+      → PieceFacts t (pick (ltb (f (byte t 2)) base && ltb (f (byte t 3)) base) (bytes_piece (v ∷ []) 4) (Bad reason letter 2))
   two_digits f base v reason letter z lo hi nm h =
       let a = ltb (f (byte t 2)) base in
       let b = ltb (f (byte t 3)) base in
       pick_case (PieceFacts t) (a && b)
       (λ e. let l = in_text (λ (c : ℕ). ltb (f c) base) t 3 z (and_right a b e) in
-      escaped t 1 v 4 (omega arith) (lit≤ tt))
+      escaped t (v ∷ []) 4 (omega arith) (lit≤ tt))
       (λ _. bad_2 reason letter lo hi nm (λ _. h))
 
   fine_hex : byte t 1 ≡ 0x78 → PieceFacts t (hex_piece t)
@@ -139,7 +142,7 @@ module _ (t : List ℕ) (two : 1 < length t) where
       (λ e. let b : n ≤ length l = ltb-false (length l) n e in
       pick_case (PieceFacts t) (ltb (hex_count n l) n) (λ _. bad b)
       (λ f. pick_case (PieceFacts t) (is_scalar (hex_value n 0 l))
-      (λ _. let few = (encode_length (hex_value n 0 l)).1 in escaped t _ _ (n + 2) (omega (arith, length-drop 2 t)) (omega arith))
+      (λ _. let few = (encode_length (hex_value n 0 l)).1 in escaped t _ (n + 2) (omega (arith, length-drop 2 t)) (omega arith))
       (λ _. let q : hex_count n l ≡ n = omega (arith, count_le n l, ltb-false (hex_count n l) n f) in rw q at (bad b))))
 
   fine_escape : PieceFacts t (escape_piece t)
@@ -154,7 +157,7 @@ module _ (t : List ℕ) (two : 1 < length t) where
       (λ x. let q = eqb-true e 0x55 x in fine_code 8 reasons.bad_capital_u 0x55 (lit≤ tt) (lit≤ tt) (lit≤ tt) (sym q) (omega arith))
       (λ _. pick_case (PieceFacts t) (within 48 51 e) (λ x. let q = within_high 48 51 e x in fine_oct (omega arith))
       (λ _. bad_2 reasons.unknown_escape e (lit≤ tt) (lit≤ tt) refl (λ n. absurd (n refl)))))))
-      (λ _. escaped t 1 _ 2 (omega arith) (lit≤ tt))
+      (λ _. escaped t (_ ∷ []) 2 (omega arith) (lit≤ tt))
 
 front : (c : ℕ) (l : List ℕ) (k : ℕ) → eqb c k ≡ true → k < 0x80 → Front (c ∷ l)
 front c l k e h = let q = eqb-true c k e in record { some = omega arith; ascii = omega arith }
@@ -169,4 +172,4 @@ piece_facts (c ∷ l) =
     (λ _. pick_case (PieceFacts t) (eqb c 0x5C)
     (λ s. pick_case (PieceFacts t) (eqb (length l) 0) (λ _. front c l 0x5C s (omega arith))
     (λ e. let n : length l ≡ 0 → ⊥ = eqb-false (length l) 0 e in fine_escape t (omega arith)))
-    (λ _. record { bytes = omega arith; own = λ _. (refl, refl) })))
+    (λ _. record { bytes = omega arith; count = refl; own = λ _. (refl, refl) })))

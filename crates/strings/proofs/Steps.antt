@@ -1,14 +1,12 @@
--- For `step_at` and `feed`: what they return is a row of its definition. Assumes nothing.
+-- For `step_at`: what it returns is a row of its definition. Assumes nothing.
 use mathlib.Core.Path.{◌≡◌, sym, ◌∙◌, subst}
-use mathlib.Core.List.{List, [], ◌∷◌}
+use mathlib.Core.List.{List}
 use Prim.Native.Nat.{ℕ, ◌+◌, ◌-◌, ◌^◌, ◌≤◌, ◌<◌}
 use native.Mathlib.Omega.{arith}
 use lib.ListN.{length, drop, take, length-drop}
 use mir.Syntax.{w64}
 use mir.Val.{Fits}
 use Rattle.base.proofs.Reaches.{rest_is}
-use Rattle.utf8.specs.State.{push, push_all}
-use Rattle.utf8.specs.declared.state.State.{State}
 use Rattle.lexeme.specs.declared.Mode.{Mode}
 use Rattle.strings.specs.Piece.{piece_of}
 use Rattle.strings.specs.Decode.{step_of}
@@ -32,9 +30,3 @@ bad_fits s i q reason letter used h f e k =
     let p : piece_of (drop i s) ≡ piece.Bad reason letter used = sym (rw (rest_is s i) at e) ∙ k in
     let u : Refused (drop i s) reason letter used = subst (λ (x : Piece). PieceFacts (drop i s) x) p (piece_facts (drop i s)) in
     omega (arith, u.bytes.left, length-drop i s)
-
--- `feed`: all four bytes are pushed
-pub feed_4 : (t : State) (n a b c d : ℕ) (t₁ t₂ t₃ t₄ : State) → t₁ ≡ push t a → t₂ ≡ push t₁ b → t₃ ≡ push t₂ c → t₄ ≡ push t₃ d
-    → n ≤ 4 → (n ≡ 0 → ⊥) → (n ≡ 1 → ⊥) → (n ≡ 2 → ⊥) → (n ≡ 3 → ⊥) → t₄ ≡ push_all t (take n (a ∷ b ∷ c ∷ d ∷ []))
-unfolding push_all
-feed_4 t n a b c d t₁ t₂ t₃ t₄ e₁ e₂ e₃ e₄ h n₀ n₁ n₂ n₃ = let e : n ≡ 4 = omega arith in rw (e, e₄, e₃, e₂, e₁)

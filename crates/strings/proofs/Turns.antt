@@ -6,18 +6,20 @@ use mathlib.Core.List.{List, [], ◌∷◌, ◌++◌}
 use Prim.Native.Nat.{ℕ, ◌+◌, ◌*◌, ◌≤◌, ◌<◌}
 use native.Mathlib.Nat.{add-zero, add_assoc}
 use native.Mathlib.Omega.{arith}
-use borrow.Author.Tests.{eqb-true, eqb-false}
 use lib.Dec.{eqb, lit≤}
-use lib.ListN.{length, drop, take, length-append}
+use lib.ListN.{length, drop, length-append}
 use lib.Seq.{sets, drop-cons}
 use Rattle.base.specs.Choice.{pick}
 use Rattle.base.specs.Bytes.{byte}
 use Rattle.base.proofs.Stores.{empty}
-use Rattle.base.proofs.Tests.{in_text, pick_le}
+use Rattle.base.proofs.Tests.{by_cases, in_text, pick_le}
 use Rattle.utf8.specs.Grammar.{Octets}
-use Rattle.utf8.specs.State.{fresh, push_all}
+use Rattle.utf8.specs.State.{is_between, push_all}
 use Rattle.utf8.specs.declared.state.State.{State}
-use Rattle.utf8.proofs.States.{push_append, octets_fed}
+use Rattle.utf8.specs.declared.state.State.TheVariants.{Between}
+use Rattle.utf8.specs.Character.{octets_of}
+use Rattle.utf8.specs.declared.character.Encoded.{Encoded}
+use Rattle.utf8.proofs.States.{push_append, between_is, octets_fed}
 use Rattle.token.specs.Reason as reasons
 use Rattle.lexeme.specs.Lexeme.{Note}
 use Rattle.lexeme.specs.declared.Mode.{Mode}
@@ -31,7 +33,6 @@ use Rattle.strings.specs.declared.literal.End.{End}
 use Rattle.strings.specs.declared.literal.End.TheVariants as end
 use Rattle.strings.specs.declared.literal.Step.{Step}
 use Rattle.strings.specs.declared.literal.Step.TheVariants.{Go, Stop}
-use Rattle.utf8.proofs.Settles.{Settled, settled}
 use Rattle.strings.proofs.PieceFacts.{Taken}
 use Rattle.strings.proofs.Decodes.{from, Gives, went, from_stop, step_gives}
 use Rattle.base.proofs.Storings.{Storing, storing_first, storing_end, storing_room, storing_more}
@@ -60,13 +61,10 @@ measured_prepend : (c r : ℕ) (t : State) (bs : List ℕ) (ns : List Note) (d :
 measured_prepend c r t bs ns d = simp (length-append, add_assoc, push_append)
 
 -- whole characters leave the state as it is, where none has begun
-fed_still : (t : State) (l : List ℕ) → Settled t → Octets l → ((t.need ≡ 0 → ⊥) → length l ≡ 0) → push_all t l ≡ t
+fed_still : (t : State) (l : List ℕ) → Octets l → (is_between t ≡ false → length l ≡ 0) → push_all t l ≡ t
 unfolding push_all
-fed_still t l f o none = go (eqb t.need 0) refl
-  where
-    go : (b : Bool) → eqb t.need 0 ≡ b → push_all t l ≡ t
-    go true e = rw (f (eqb-true t.need 0 e)) (octets_fed o)
-    go false e = rw (empty l (none (eqb-false t.need 0 e)))
+fed_still t l o none =
+    by_cases (is_between t) (λ e. rw (between_is t e) (octets_fed o)) (λ e. rw (empty l (none e)))
 
 -- a quote closes a literal
 pub quote_stop : (m : Mode) (s : List ℕ) (e x : ℕ) → x ≡ byte s e → x ≡ 0x22 → Stop end.Closed (e + 1) ≡ step_of m e (piece_of (drop e s))
@@ -80,58 +78,55 @@ pub record Measuring (m : Mode) (s : List ℕ) (i count reports : ℕ) (state : 
   pub inside : i ≤ length s
   pub few_bytes : count + 1 ≤ i
   pub few_reports : reports + 1 ≤ i
-  pub settled : Settled state
-  pub is : measured 0 0 fresh (from m s 1) ≡ measured count reports state (from m s i)
+  pub is : measured 0 0 Between (from m s 1) ≡ measured count reports state (from m s i)
 
-pub measuring_first : (m : Mode) (s : List ℕ) (t : State) → 0 < length s → t ≡ fresh → Measuring m s 1 0 0 t
-measuring_first m s t h e = record { inside = h; few_bytes = lit≤ tt; few_reports = lit≤ tt; settled = λ _. e; is = rw e refl }
+pub measuring_first : (m : Mode) (s : List ℕ) (t : State) → 0 < length s → t ≡ Between → Measuring m s 1 0 0 t
+measuring_first m s t h e = record { inside = h; few_bytes = lit≤ tt; few_reports = lit≤ tt; is = rw e refl }
 
 module _ {m : Mode} {s : List ℕ} {i count reports : ℕ} {state : State} (u : Measuring m s i count reports state) where
   -- after a part
-  pub measuring_part : {e size : ℕ} → Spells s i e size × ((state.need ≡ 0 → ⊥) → size ≡ 0) → Measuring m s e (count + size) reports state
+  pub measuring_part : {e size : ℕ} → Spells s i e size × (is_between state ≡ false → size ≡ 0) → Measuring m s e (count + size) reports state
   measuring_part {e} {size} part =
       let p : Spells s i e size = part.0 in
       record {
         inside = p.inside;
         few_bytes = omega (arith, u.few_bytes, p.later);
         few_reports = omega (arith, u.few_reports, p.later);
-        settled = u.settled;
         is =
             u.is
             ∙ ap (measured count reports state) (p.is m)
             ∙ measured_prepend count reports state p.bytes [] (from m s e)
-            ∙ rw (p.count, fed_still state p.bytes u.settled p.whole (λ n. p.count ∙ part.1 n), add-zero reports);
+            ∙ rw (p.count, fed_still state p.bytes p.whole (λ n. p.count ∙ part.1 n), add-zero reports);
       }
 
   -- a step
   module _ {q : Step} (is : q ≡ step_of m i (piece_of (drop i s))) where
     pub measuring_stop : {x : End} {p : ℕ} → q ≡ Stop x p
-        → record { count = count; reports = reports; stop = p; end = x; state = state } ≡ measured 0 0 fresh (literal_of m s)
+        → record { count = count; reports = reports; stop = p; end = x; state = state } ≡ measured 0 0 Between (literal_of m s)
     unfolding push_all literal_of
     measuring_stop h = sym (u.is ∙ ap (measured count reports state) (from_stop m s i is h) ∙ simp add-zero)
 
-    module _ {n a b c d used reason : ℕ} (h : q ≡ Go n a b c d used reason) where
-      gives : Gives m s i (take n (a ∷ b ∷ c ∷ d ∷ [])) (step_notes reason b i) n (i + used)
+    module _ {enc : Encoded} {used reason : ℕ} (h : q ≡ Go enc used reason) where
+      gives : Gives m s i (octets_of enc) (step_notes reason (byte enc.bytes 1) i) enc.len (i + used)
       gives = step_gives m s i is h u.inside
 
-      pub measuring_go : (t : State) (k : ℕ) → t ≡ push_all state (take n (a ∷ b ∷ c ∷ d ∷ [])) → k ≡ pick (eqb reason reasons.none) 0 1
-          → Measuring m s (i + used) (count + n) (reports + k) t
+      pub measuring_go : (t : State) (k : ℕ) → t ≡ push_all state (octets_of enc) → k ≡ pick (eqb reason reasons.none) 0 1
+          → Measuring m s (i + used) (count + enc.len) (reports + k) t
       measuring_go t k et ek =
-          let f : Taken n used (length (drop i s)) = (went m s i is h).taken in
-          let bs : List ℕ = take n (a ∷ b ∷ c ∷ d ∷ []) in
+          let f : Taken enc.len used (length (drop i s)) = (went m s i is h).taken in
+          let bs : List ℕ = octets_of enc in
           record {
             inside = gives.inside;
             few_bytes = omega (arith, u.few_bytes);
             few_reports = omega (arith, u.few_reports, count_le (eqb reason reasons.none));
-            settled = rw et (settled state bs u.settled);
             is =
                 u.is
                 ∙ ap (measured count reports state) gives.is
-                ∙ measured_prepend count reports state bs (step_notes reason b i) (from m s (i + used))
-                ∙ rw (gives.count, notes_count reason b i, et, ek) refl;
+                ∙ measured_prepend count reports state bs (step_notes reason (byte enc.bytes 1) i) (from m s (i + used))
+                ∙ rw (gives.count, notes_count reason (byte enc.bytes 1) i, et, ek) refl;
           }
 
-      pub count_in : count + n ≤ length s
+      pub count_in : count + enc.len ≤ length s
       count_in = let f = (went m s i is h).taken in omega (arith, u.few_bytes, gives.inside)
 
 -- ---- `put_string`

@@ -1,7 +1,9 @@
 -- What a string literal stands for, from the byte after its opening quote to where it stops.
-use Rattle.std.specs.Prelude.{List, [], ◌∷◌, ◌++◌, ℕ, zero, suc, ◌+◌, ◌-◌, eqb, take}
+use Rattle.std.specs.Prelude.{List, [], ◌∷◌, ◌++◌, ℕ, zero, suc, ◌+◌, ◌-◌, eqb}
 use Prim.Native.Char.{code}
 use Rattle.base.specs.Choice.{pick}
+use Rattle.base.specs.Bytes.{byte}
+use Rattle.utf8.specs.Character.{octets_of, encoded}
 use Rattle.token.specs.Reason as reasons
 use Rattle.lexeme.specs.Lexeme.{Note}
 use Rattle.lexeme.specs.declared.Mode.{Mode}
@@ -15,10 +17,9 @@ use Rattle.strings.specs.declared.literal.Step.{Step}
 use Rattle.strings.specs.declared.literal.Step.TheVariants.{Go, Stop}
 
 -- Types of the code (src/literal.rt). `End`, how a literal ends: `Closed`; `AtNewline`; `Cut`, after a backslash at the end of the text; `Open`, at
--- the end of the text; `Bad reason letter`, at a bad escape. `Step`, what a mode makes of a piece: `Go n a b c d used reason`, the first n of the
--- bytes a, b, c, d are decoded from `used` bytes of text, and a reason other than none is reported; `Stop end stop`, the literal ends at the offset
--- `stop`.
--- Types that other files explain: `Mode` in lexeme/specs/Lexeme.antt; `Piece` in Piece.antt.
+-- the end of the text; `Bad reason letter`, at a bad escape. `Step`, what a mode makes of a piece: `Go encoded used reason`, the bytes of `encoded` are
+-- decoded from `used` bytes of text, and a reason other than none is reported; `Stop end stop`, the literal ends at the offset `stop`.
+-- Types that other files explain: `Encoded` in utf8/specs/Character.antt; `Mode` in lexeme/specs/Lexeme.antt; `Piece` in Piece.antt.
 
 -- the decoded bytes, the reports of bad escapes in order, where the literal stops, and how it ends
 pub record Decoded : Type 0 where
@@ -30,9 +31,9 @@ pub record Decoded : Type 0 where
 -- What a mode makes of a piece at an offset. Document 01: "Tolerant strings leave an unescaped newline for the next token"; "A bad escape is
 -- reported at its letter and kept as backslash and letter"; "A backslash at the end is dropped"
 unfoldable pub step_of : Mode → ℕ → Piece → Step
-step_of m at (piece.Bytes n a b c d used) = Go n a b c d used reasons.none
+step_of m at (piece.Bytes e used) = Go e used reasons.none
 step_of Strict at (piece.Bad reason letter used) = Stop (end.Bad reason letter) (at + used)
-step_of Tolerant at (piece.Bad reason letter used) = Go 2 (code "\\") letter 0 0 used reason
+step_of Tolerant at (piece.Bad reason letter used) = Go (encoded (code "\\" ∷ letter ∷ [])) used reason
 step_of m at piece.Close = Stop end.Closed (at + 1)
 step_of Strict at piece.Newline = Stop end.AtNewline (at + 1)
 step_of Tolerant at piece.Newline = Stop end.AtNewline at
@@ -57,9 +58,9 @@ abbrev pub stopped : End → ℕ → Decoded
 stopped e p = record { bytes = []; notes = []; stop = p; ending = e }
 
 -- A step goes on with what f gives after the bytes of it that are left, or ends the literal. A bad escape is "kept as backslash and letter", so the
--- letter that is reported is b, the second decoded byte.
+-- letter that is reported is the second decoded byte.
 abbrev pub follow : Step → ℕ → (ℕ → Decoded) → Decoded
-follow (Go n a b c d used reason) at f = prepend (take n (a ∷ b ∷ c ∷ d ∷ [])) (step_notes reason b at) (f (used - 1))
+follow (Go e used reason) at f = prepend (octets_of e) (step_notes reason (byte e.bytes 1) at) (f (used - 1))
 follow (Stop e p) at f = stopped e p
 
 -- The list stands at the offset `at` of the token, and its first k bytes belong to a step that is counted already.

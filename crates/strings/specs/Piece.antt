@@ -3,14 +3,15 @@ use Rattle.std.specs.Prelude.{◌&&◌, List, [], ◌∷◌, ℕ, zero, suc, ◌
 use Prim.Native.Char.{code}
 use Rattle.base.specs.Choice.{pick}
 use Rattle.base.specs.Bytes.{byte, within}
-use Rattle.utf8.specs.Character.{is_scalar, encode_of}
+use Rattle.utf8.specs.Character.{encoded, is_scalar, encode_of}
 use Rattle.token.specs.Reason as reasons
 use Rattle.strings.specs.declared.piece.Piece.{Piece}
 use Rattle.strings.specs.declared.piece.Piece.TheVariants as piece
 
--- Types of the code (src/piece.rt). `Piece`, what stands at the front of the rest of a literal: `Bytes n a b c d used`, `used` bytes of text that
--- stand for the first n of the bytes a, b, c, d; `Bad reason letter used`, a bad escape of `used` bytes of text; `Close`, the closing quote;
--- `Newline`, one that is not escaped; `Cut`, a backslash with nothing after it; `Open`, nothing.
+-- Types of the code (src/piece.rt). `Piece`, what stands at the front of the rest of a literal: `Bytes encoded used`, `used` bytes of text that stand
+-- for those of `encoded`; `Bad reason letter used`, a bad escape of `used` bytes of text; `Close`, the closing quote; `Newline`, one that is not
+-- escaped; `Cut`, a backslash with nothing after it; `Open`, nothing.
+-- Types that other files explain: `Encoded` in utf8/specs/Character.antt.
 
 -- `hex_val`: a hexadecimal digit's value, and 16 of any other byte
 unfoldable pub hex_of : ℕ → ℕ
@@ -41,18 +42,18 @@ simple_of e = look letters e
 
 -- at most four bytes from a list, with how many bytes of text they stand for
 abbrev pub bytes_piece : List ℕ → ℕ → Piece
-bytes_piece l used = piece.Bytes (length l) (byte l 0) (byte l 1) (byte l 2) (byte l 3) used
+bytes_piece l used = piece.Bytes (encoded l) used
 
 -- `\x` and two digits, by `read_hex_byte`, the list standing at the backslash. Past the end `byte` gives 0, which is no digit
 unfoldable pub hex_piece : List ℕ → Piece
 hex_piece l =
-    pick (ltb (hex_of (byte l 2)) 16 && ltb (hex_of (byte l 3)) 16) (piece.Bytes 1 (hex_of (byte l 2) * 16 + hex_of (byte l 3)) 0 0 0 4)
+    pick (ltb (hex_of (byte l 2)) 16 && ltb (hex_of (byte l 3)) 16) (bytes_piece ((hex_of (byte l 2) * 16 + hex_of (byte l 3)) ∷ []) 4)
     (piece.Bad reasons.bad_x (code "x") 2)
 
 -- a digit from 0 to 3 and two octal digits, by `read_oct_rest`
 unfoldable pub oct_piece : ℕ → List ℕ → Piece
 oct_piece first l =
-    pick (ltb (oct_of (byte l 2)) 8 && ltb (oct_of (byte l 3)) 8) (piece.Bytes 1 ((first - code "0") * 64 + oct_of (byte l 2) * 8 + oct_of (byte l 3)) 0 0 0 4)
+    pick (ltb (oct_of (byte l 2)) 8 && ltb (oct_of (byte l 3)) 8) (bytes_piece (((first - code "0") * 64 + oct_of (byte l 2) * 8 + oct_of (byte l 3)) ∷ []) 4)
     (piece.Bad reasons.bad_octal first 2)
 
 -- how many of the first n bytes are digits before the first that is none
@@ -83,7 +84,7 @@ escape_piece l =
     (pick (eqb (byte l 1) (code "u")) (code_piece 4 reasons.bad_u (code "u") (drop 2 l))
     (pick (eqb (byte l 1) (code "U")) (code_piece 8 reasons.bad_capital_u (code "U") (drop 2 l))
     (pick (within (code "0") (code "3") (byte l 1)) (oct_piece (byte l 1) l) (piece.Bad reasons.unknown_escape (byte l 1) 2)))))
-    (piece.Bytes 1 (simple_of (byte l 1)) 0 0 0 2)
+    (bytes_piece (simple_of (byte l 1) ∷ []) 2)
 
 -- what stands at the front of the rest of a literal, by the loop of `lex_string`
 unfoldable pub piece_of : List ℕ → Piece
@@ -91,4 +92,4 @@ piece_of [] = piece.Open
 piece_of (c ∷ l) =
     pick (eqb c (code "\"")) piece.Close
     (pick (eqb c (code "\n")) piece.Newline
-    (pick (eqb c (code "\\")) (pick (eqb (length l) 0) piece.Cut (escape_piece (c ∷ l))) (piece.Bytes 1 c 0 0 0 1)))
+    (pick (eqb c (code "\\")) (pick (eqb (length l) 0) piece.Cut (escape_piece (c ∷ l))) (bytes_piece (c ∷ []) 1)))

@@ -7,7 +7,7 @@ ghost use Rattle.strings.specs.Decode.{letter_detail};
 ghost use Rattle.strings.specs.Literal.{literal_of, end_reason, end_detail, literal_end, end_notes, lex_string};
 ghost use Rattle.strings.specs.Helpers.{Sized};
 
-use crate::literal::{End, Step, measure_literal, ordinary_end, put, put_simple, step_at};
+use crate::literal::{End, Step, measure_literal, ordinary_end, put_simple, step_at};
 use lexeme::{Lexeme, Mode};
 use token::kind::TokenKind;
 use token::reason;
@@ -91,13 +91,11 @@ fn lex_strict(s: &[u8]) -> Lexeme
     let m = measure_literal(s, Mode::Strict);
     let end = m.end;
     let stop = m.stop;
-    let state = m.state;
-    let need = state.need;
     let reason = end_reason(end);
     if reason != reason::NONE {
         return Lexeme::illegal(reason, end_detail(end), end_of(s, end, stop));
     }
-    if need != 0 {
+    if !m.state.is_between() {
         return Lexeme::illegal(reason::STRING_NOT_UTF8, 0, stop);
     }
     Lexeme::extent(TokenKind::String, stop, 0, m.count, 0)
@@ -111,10 +109,8 @@ fn lex_tolerant(s: &[u8]) -> Lexeme
     let m = measure_literal(s, Mode::Tolerant);
     let end = m.end;
     let stop = m.stop;
-    let state = m.state;
-    let need = state.need;
     let reports = m.reports + end_reports(end);
-    if need == 0 {
+    if m.state.is_between() {
         return Lexeme::extent(TokenKind::String, stop, 0, m.count, reports);
     }
     Lexeme::illegal_reported(reason::STRING_NOT_UTF8, 0, stop, reports)
@@ -174,16 +170,12 @@ pub fn put_string(s: &[u8], mode: Mode, len: usize, size: usize, out: &mut [u8],
         let st = step_at(s, e, mode);
         match st {
             Step::Go {
-                n,
-                a,
-                b,
-                c,
-                d,
+                encoded,
                 used,
                 reason: _,
             } => {
-                put(out, p, n, a, b, c, d);
-                p += n;
+                base::copy(out, p, &encoded.bytes, 0, encoded.len);
+                p += encoded.len;
                 i = e + used;
             }
             Step::Stop { end: _, stop: _ } => {

@@ -1,12 +1,12 @@
 // A whole string literal: one step at a time, and at once the parts that have only characters that stand for themselves and escapes of one
 // letter.
-ghost use Rattle.std.specs.Prelude.{◌≡◌, [], ◌∷◌, ◌+◌, ◌≤◌, ◌<◌, eqb, length, take, drop};
+ghost use Rattle.std.specs.Prelude.{◌≡◌, false, ◌+◌, ◌≤◌, ◌<◌, eqb, length, drop};
 ghost use Rattle.std.proofs.lemmas.List.Edits.{sets};
 ghost use Rattle.base.specs.Choice.{pick};
 ghost use Rattle.base.specs.Bytes.{byte};
 ghost use Rattle.base.specs.Runs.{reach};
 ghost use Rattle.utf8.specs.Grammar.{Octets};
-ghost use Rattle.utf8.specs.State.{fresh, push_all};
+ghost use Rattle.utf8.specs.State.{is_between};
 ghost use Rattle.token.specs.Reason as reasons;
 ghost use Rattle.strings.specs.Piece.{piece_of};
 ghost use Rattle.strings.specs.Plain.{is_ordinary, in_ordinary, simple_at, simple_bytes, Spells};
@@ -19,6 +19,7 @@ use crate::piece::{Piece, next_piece};
 use base::runs::{Run, past_windows, reach_bytes};
 use lexeme::Mode;
 use token::reason;
+use utf8::character::Encoded;
 use utf8::check::is_inside;
 use utf8::state::State;
 
@@ -35,13 +36,9 @@ pub enum End {
 // One step, with what the mode makes of it.
 #[derive(Clone, Copy)]
 pub enum Step {
-    // The first `n` of a, b, c, d are decoded, from `used` bytes of text. `reason` is none, or that of a report, whose letter is b.
+    // The bytes of `encoded` are decoded, from `used` bytes of text. `reason` is none, or that of a report, whose letter is the second byte.
     Go {
-        n: usize,
-        a: u8,
-        b: u8,
-        c: u8,
-        d: u8,
+        encoded: Encoded,
         used: usize,
         reason: usize,
     },
@@ -83,19 +80,8 @@ pub fn step_at(s: &[u8], i: usize, mode: Mode) -> Step
 {
     let p = next_piece(&s[i..]);
     match p {
-        Piece::Bytes {
-            n,
-            a,
-            b,
-            c,
-            d,
-            used,
-        } => Step::Go {
-            n,
-            a,
-            b,
-            c,
-            d,
+        Piece::Bytes { encoded, used } => Step::Go {
+            encoded,
             used,
             reason: reason::NONE,
         },
@@ -105,15 +91,14 @@ pub fn step_at(s: &[u8], i: usize, mode: Mode) -> Step
             used,
         } => match mode {
             Mode::Strict => stop_at(End::Bad { reason, letter }, i + used),
-            Mode::Tolerant => Step::Go {
-                n: 2,
-                a: b'\\',
-                b: letter,
-                c: 0,
-                d: 0,
-                used,
-                reason,
-            },
+            Mode::Tolerant => {
+                let bytes = [b'\\', letter, 0, 0];
+                Step::Go {
+                    encoded: Encoded { bytes, len: 2 },
+                    used,
+                    reason,
+                }
+            }
         },
         Piece::Close => stop_at(End::Closed, i + 1),
         Piece::Newline => match mode {
@@ -123,52 +108,6 @@ pub fn step_at(s: &[u8], i: usize, mode: Mode) -> Step
         Piece::Cut => stop_at(End::Cut, i + 1),
         Piece::Open => stop_at(End::Open, i),
     }
-}
-
-// The state after the first n of four bytes.
-fn feed(t: State, n: usize, a: u8, b: u8, c: u8, d: u8) -> State
-    requires { n ≤ 4 }
-    ensures { result ≡ push_all t (take n (a ∷ b ∷ c ∷ d ∷ [])) }
-{
-    if n == 0 {
-        return t;
-    }
-    let t1 = t.push(a);
-    if n == 1 {
-        return t1;
-    }
-    let t2 = t1.push(b);
-    if n == 2 {
-        return t2;
-    }
-    let t3 = t2.push(c);
-    if n == 3 {
-        return t3;
-    }
-    t3.push(d)
-}
-
-// Stores the first n of four bytes from p on.
-pub fn put(out: &mut [u8], p: usize, n: usize, a: u8, b: u8, c: u8, d: u8)
-    requires { (n ≤ 4) × (p + n ≤ length out.old) }
-    ensures { out.new ≡ sets out.old p (take n (a ∷ b ∷ c ∷ d ∷ [])) }
-{
-    if n == 0 {
-        return;
-    }
-    out[p] = a;
-    if n == 1 {
-        return;
-    }
-    out[p + 1] = b;
-    if n == 2 {
-        return;
-    }
-    out[p + 2] = c;
-    if n == 3 {
-        return;
-    }
-    out[p + 3] = d;
 }
 
 // How many reports a step makes.
@@ -261,13 +200,13 @@ pub fn put_simple(s: &[u8], i: usize, out: &mut [u8], place: usize) -> usize
 
 // The part from i on of characters that stand for themselves and escapes of one letter. These leave no character begun; where one has, in
 // what is decoded or in the text, the part is empty.
-fn part_at(s: &[u8], i: usize, need: u8) -> Part
+fn part_at(s: &[u8], i: usize, state: State) -> Part
     requires { (i ≤ length s.now) × Octets s.now }
-    ensures { Spells s.now i result.end result.count × ((need ≡ 0 → ⊥) → result.count ≡ 0) }
+    ensures { Spells s.now i result.end result.count × (is_between state ≡ false → result.count ≡ 0) }
 {
     let mut end = i;
     let mut count = 0;
-    if (need != 0) | is_inside(s, i) {
+    if !state.is_between() | is_inside(s, i) {
         return Part { end, count };
     }
     loop {
@@ -284,15 +223,14 @@ fn part_at(s: &[u8], i: usize, need: u8) -> Part
 // Measures the literal whose opening quote is the first byte.
 pub fn measure_literal(s: &[u8], mode: Mode) -> Measure
     requires { (0 < length s.now) × Octets s.now }
-    ensures { result ≡ measured 0 0 fresh (literal_of mode s.now) }
+    ensures { result ≡ measured 0 0 State.Between (literal_of mode s.now) }
 {
     let mut i = 1;
     let mut count = 0;
     let mut reports = 0;
     let mut state = State::start();
     loop {
-        let need = state.need;
-        let part = part_at(s, i, need);
+        let part = part_at(s, i, state);
         let e = part.end;
         count += part.count;
         // Most literals end here, and need no step.
@@ -309,16 +247,12 @@ pub fn measure_literal(s: &[u8], mode: Mode) -> Measure
         let st = step_at(s, e, mode);
         match st {
             Step::Go {
-                n,
-                a,
-                b,
-                c,
-                d,
+                encoded,
                 used,
                 reason,
             } => {
-                state = feed(state, n, a, b, c, d);
-                count += n;
+                state = state.push_all(encoded.as_slice());
+                count += encoded.len;
                 reports += report_count(reason);
                 i = e + used;
             }

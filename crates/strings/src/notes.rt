@@ -70,11 +70,7 @@ fn put_tolerant_notes(text: &[u8], start: Place, out: &mut [i64], at: usize)
         let st = step_at(s, e, Mode::Tolerant);
         match st {
             Step::Go {
-                n: _,
-                a: _,
-                b,
-                c: _,
-                d: _,
+                encoded,
                 used,
                 reason,
             } => {
@@ -82,7 +78,7 @@ fn put_tolerant_notes(text: &[u8], start: Place, out: &mut [i64], at: usize)
                 if reason == reason::NONE {
                     continue;
                 }
-                place = put_note(text, place, first + e + 1, reason, b, out, p);
+                place = put_note(text, place, first + e + 1, reason, encoded.bytes[1], out, p);
                 p += REPORT_WIDTH;
             }
             Step::Stop { end, stop: _ } => {

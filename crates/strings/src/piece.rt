@@ -1,22 +1,18 @@
 // One step of a string literal.
-ghost use Rattle.std.specs.Prelude.{◌≡◌, ◌+◌, ◌-◌, ◌*◌, ◌≤◌, ◌<◌, length, drop};
-ghost use Rattle.utf8.specs.Character.{is_scalar, encode_of};
+ghost use Rattle.std.specs.Prelude.{◌≡◌, [], ◌∷◌, ◌+◌, ◌-◌, ◌*◌, ◌≤◌, ◌<◌, length, drop};
+ghost use Rattle.utf8.specs.Character.{is_scalar};
 ghost use Rattle.strings.specs.Piece.{bytes_piece, hex_piece, oct_piece, code_piece, escape_piece, piece_of};
 
 use crate::digit::{hex_val, oct_val, simple};
 use token::reason;
-use utf8::character::encode;
+use utf8::character::{Encoded, encode};
 
 // What stands at the front of the rest of a literal, after the opening quote.
 #[derive(Clone, Copy)]
 pub enum Piece {
-    // `used` bytes of text that stand for the first `n` of the bytes a, b, c, d.
+    // `used` bytes of text that stand for those of `encoded`.
     Bytes {
-        n: usize,
-        a: u8,
-        b: u8,
-        c: u8,
-        d: u8,
+        encoded: Encoded,
         used: usize,
     },
     // A bad escape: the reason, its letter, and how many bytes of text it takes.
@@ -37,14 +33,11 @@ pub enum Piece {
 
 // One byte, which stood in `used` bytes of the text.
 fn one(b: u8, used: usize) -> Piece
-    ensures { result ≡ Piece.Bytes 1 b 0 0 0 used }
+    ensures { result ≡ bytes_piece (b ∷ []) used }
 {
+    let bytes = [b, 0, 0, 0];
     Piece::Bytes {
-        n: 1,
-        a: b,
-        b: 0,
-        c: 0,
-        d: 0,
+        encoded: Encoded { bytes, len: 1 },
         used,
     }
 }
@@ -56,45 +49,6 @@ fn bad(reason: usize, letter: u8, used: usize) -> Piece
     Piece::Bad {
         reason,
         letter,
-        used,
-    }
-}
-
-// The UTF-8 bytes of a code point, which stood in `used` bytes of the text. A piece has 0 past them, where `encode` says nothing.
-fn encode_rune(r: u32, used: usize) -> Piece
-    requires { r ≤ 0x10FFFF }
-    ensures { result ≡ bytes_piece (encode_of r) used }
-{
-    let e = encode(r);
-    if r < 0x80 {
-        return one(e.a, used);
-    }
-    if r < 0x800 {
-        return Piece::Bytes {
-            n: 2,
-            a: e.a,
-            b: e.b,
-            c: 0,
-            d: 0,
-            used,
-        };
-    }
-    if r < 0x10000 {
-        return Piece::Bytes {
-            n: 3,
-            a: e.a,
-            b: e.b,
-            c: e.c,
-            d: 0,
-            used,
-        };
-    }
-    Piece::Bytes {
-        n: 4,
-        a: e.a,
-        b: e.b,
-        c: e.c,
-        d: e.d,
         used,
     }
 }
@@ -146,11 +100,14 @@ fn code_escape(t: &[u8], n: usize, reason: usize, letter: u8) -> Piece
         if 16 <= d {
             return bad(reason, letter, k + 2);
         }
-        r = r * 16 + base::wide(d);
+        r = r * 16 + u32::from(d);
         k += 1;
     }
     if valid_rune(r) {
-        return encode_rune(r, n + 2);
+        return Piece::Bytes {
+            encoded: encode(r),
+            used: n + 2,
+        };
     }
     bad(reason, letter, n + 2)
 }

@@ -5,7 +5,7 @@ use Prim.Native.Nat.{ℕ}
 use Rattle.base.specs.Characters.{ascii}
 use Rattle.base.specs.Runs.{run, reach}
 use Rattle.utf8.specs.Grammar.{utf8_char, char_size}
-use Rattle.utf8.specs.Character.{code_bits, decode_of, white_space, is_white, white_size}
+use Rattle.utf8.specs.Character.{code_bits, code_of, white_space, is_white, white_size}
 use Rattle.utf8.specs.Check.{is_tail, char_end}
 use Rattle.token.specs.declared.kind.TokenKind.TheVariants as K
 use Rattle.lexeme.specs.Lexeme.{extent, illegal, Note, note_at_start}
@@ -79,5 +79,5 @@ read e = answer (lex_triple_string e.mode e.text) (triple_bytes e.mode e.text) (
 
 examples_hold : map read table ≡ map (λ e. e.expected) table
 unfolding table lex_triple_string triple_bytes triple_notes quotes until_quotes raw_size raw_bytes closed open_triple_end dedent unindent unlead
-    first others strip prefix blank white_size is_white white_space decode_of code_bits char_size utf8_char char_end is_tail reach run
+    first others strip prefix blank white_size is_white white_space code_of code_bits char_size utf8_char char_end is_tail reach run
 examples_hold = refl

@@ -13,10 +13,13 @@ use lib.Seq.{drop-cons, drop-drop, take-suc, take-length, length-take-le}
 use mir.Syntax.{w64}
 use mir.Val.{Fits}
 use Rattle.std.specs.List.{starts_with}
+use Rattle.std.specs.Prelude.{Option, Some, None}
 use Rattle.base.specs.Choice.{pick}
+use Rattle.base.specs.Helpers.{nonzero}
 use Rattle.base.specs.Bytes.{byte}
 use Rattle.base.proofs.Reaches.{rest_is}
 use Rattle.utf8.specs.Character.{white_size}
+use Rattle.utf8.proofs.Nonzero.{none_zero, some_same, some_more}
 use Rattle.utf8.proofs.Codes.{white_le}
 use Rattle.triple_strings.specs.Dedent.{next, blank, prefix}
 use Rattle.triple_strings.specs.UndentBytes.{last_start}
@@ -59,32 +62,39 @@ module _ (t : List ℕ) (i : ℕ) (u : Blanking t i) where
   pub blanking_end : length t ≤ i → true ≡ blank 0 t
   blanking_end h = sym (u.is ∙ rw (drop_of_length-le t h) blank_nil)
 
-  module _ (h : i < length t) (n : ℕ) (e : n ≡ white_size (take (length t - i) (drop i t))) where
-    here : n ≡ white_size (drop i t)
+  module _ (h : i < length t) (r : Option ℕ) (e : r ≡ nonzero (white_size (take (length t - i) (drop i t)))) where
+    here : r ≡ nonzero (white_size (drop i t))
     here = rw rest_is at e
 
     left : 1 ≤ length (drop i t)
     left = omega (arith, length-drop i t)
 
-    taken : n ≤ length t - i
-    taken = omega (arith, here, white_le (drop i t), length-drop i t)
+    pub blanking_stop : r ≡ None → false ≡ blank 0 t
+    blanking_stop z = sym (u.is ∙ blank_stop (drop i t) left (none_zero (white_size (drop i t)) (sym z ∙ here)))
 
-    pub blanking_stop : n ≡ 0 → false ≡ blank 0 t
-    blanking_stop z = sym (u.is ∙ blank_stop (drop i t) left (sym here ∙ z))
+    module _ (n : ℕ) (w : r ≡ Some n) where
+      size : white_size (drop i t) ≡ n
+      size = some_same (white_size (drop i t)) n (sym w ∙ here)
 
-    pub blanking_fits : length t < 2 ^ 64 → Fits w64 (i + n)
-    blanking_fits l = omega (arith, taken)
+      more : 0 < n
+      more = some_more (white_size (drop i t)) n (sym w ∙ here)
 
-    pub blanking_less : (n ≡ 0 → ⊥) → length t - (i + n) < length t - i
-    blanking_less z = omega (arith, taken)
+      taken : n ≤ length t - i
+      taken = omega (arith, size, white_le (drop i t), length-drop i t)
 
-    pub blanking_on : (n ≡ 0 → ⊥) → Blanking t (i + n)
-    blanking_on z =
-        let s : n ≡ suc (n - 1) = omega arith in
-        record {
-          inside = omega (arith, taken);
-          is = u.is ∙ blank_step (drop i t) (n - 1) left (sym here ∙ s) ∙ rw (← s, drop-drop n i t) refl;
-        }
+      pub blanking_fits : length t < 2 ^ 64 → Fits w64 (i + n)
+      blanking_fits l = omega (arith, taken)
+
+      pub blanking_less : length t - (i + n) < length t - i
+      blanking_less = omega (arith, taken, more)
+
+      pub blanking_on : Blanking t (i + n)
+      blanking_on =
+          let s : n ≡ suc (n - 1) = omega (arith, more) in
+          record {
+            inside = omega (arith, taken);
+            is = u.is ∙ blank_step (drop i t) (n - 1) left (size ∙ s) ∙ rw (← s, drop-drop n i t) refl;
+          }
 
 -- ---- `last_line`
 

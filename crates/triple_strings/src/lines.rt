@@ -9,10 +9,9 @@ pub fn is_blank(t: &[u8]) -> bool
 {
     let mut i = 0;
     while i < t.len() {
-        let n = utf8::character::white_size(&t[i..]);
-        if n == 0 {
+        let Some(n) = utf8::character::white_size(&t[i..]) else {
             return false;
-        }
+        };
         i += n;
     }
     true

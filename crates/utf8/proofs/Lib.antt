@@ -1,4 +1,5 @@
 mod Alternatives
+pub mod Nonzero
 pub mod Chars
 mod Runs
 pub mod Valid
@@ -7,7 +8,6 @@ pub mod Boundaries
 mod Leads
 mod Sizes
 pub mod States
-pub mod Settles
 mod Scans
 mod Shorts
 pub mod Codes

@@ -6,13 +6,14 @@ use mathlib.Core.List.{List, [], ◌∷◌, ◌++◌, Memᴰ}
 use Prim.Native.Nat.{ℕ, zero, suc, ◌+◌, ◌*◌, ◌/◌, ◌%◌, ◌≤◌, ◌<◌}
 use native.Mathlib.Nat.{le_of_suc-le-suc, not-suc-le-zero}
 use native.Mathlib.Omega.{arith}
-use borrow.Author.Tests.{ltb-true, ltb-false, leb-true, leb-false, le-leb, not-true}
+use borrow.Author.Tests.{ltb-true, ltb-false, leb-true, leb-false, le-leb, ne_eqb, not-true}
 use lib.Dec.{T, ltb, leb, ltb→lt}
 use lib.ListN.{length, get_or}
+use Rattle.std.specs.Prelude.{Some}
 use Rattle.base.specs.Bytes.{within}
 use Rattle.base.proofs.Tests.{and_left, and_right, by_cases, pick_case}
 use Rattle.utf8.specs.Grammar.{Range, range, tail, utf8_char, Matches, done, next, Char, char, char_size}
-use Rattle.utf8.specs.Character.{code_bits, decode_of, is_scalar, encode_of}
+use Rattle.utf8.specs.Character.{code_bits, code_of, decode_of, is_scalar, octets_of, encoded, encode_of}
 use Rattle.utf8.proofs.Chars.{size_of_char}
 
 -- a code point of UTF-8: at most 0x10FFFF and no surrogate
@@ -113,11 +114,6 @@ encode_char r e = (encodes r e).is_char
 encode_size : (r : ℕ) (t : List ℕ) → is_scalar r ≡ true → char_size (encode_of r ++ t) ≡ length (encode_of r)
 encode_size r t e = size_of_char t (encode_char r e)
 
--- decoded again they give the code point
-pub decode_encode : (r : ℕ) (t : List ℕ) → is_scalar r ≡ true → decode_of (encode_of r ++ t) ≡ record { code = r; size = length (encode_of r) }
-unfolding decode_of
-decode_encode r t e = rw (encode_size r t e, (encodes r e).bits t)
-
 -- every number has 1 to 4 octets
 pub encode_length : (r : ℕ) → (1 ≤ length (encode_of r)) × (length (encode_of r) ≤ 4)
 unfolding encode_of
@@ -125,3 +121,21 @@ encode_length r =
     let P : List ℕ → Type 0 = λ c. (1 ≤ length c) × (length c ≤ 4) in
     pick_case P (ltb r 0x80) (λ u. omega arith)
     (λ u. pick_case P (ltb r 0x800) (λ v. omega arith) (λ v. pick_case P (ltb r 0x10000) (λ w. omega arith) (λ w. omega arith)))
+
+-- at most four octets are those that an `Encoded` of them has; so the octets of a code point are what `encode` answers with
+pub octets_encoded : (l : List ℕ) → length l ≤ 4 → octets_of (encoded l) ≡ l
+octets_encoded [] h = refl
+octets_encoded (a ∷ []) h = refl
+octets_encoded (a ∷ b ∷ []) h = refl
+octets_encoded (a ∷ b ∷ c ∷ []) h = refl
+octets_encoded (a ∷ b ∷ c ∷ d ∷ []) h = refl
+octets_encoded (a ∷ b ∷ c ∷ d ∷ e ∷ l) h = absurd (omega arith)
+
+pub encode_octets : (r : ℕ) → octets_of (encoded (encode_of r)) ≡ encode_of r
+encode_octets r = octets_encoded (encode_of r) (encode_length r).1
+
+-- decoded again they give the code point
+pub decode_encode : (r : ℕ) (t : List ℕ) → is_scalar r ≡ true
+    → decode_of (encode_of r ++ t) ≡ Some (record { code = r; size = length (encode_of r) })
+unfolding decode_of code_of
+decode_encode r t e = rw (encode_size r t e, (encodes r e).bits t, ne_eqb (length (encode_of r)) 0 (λ z. omega (arith, (encode_length r).0)))

@@ -1,20 +1,29 @@
--- For Boundaries, Scans and Shorts: a run of ASCII bytes is a run of characters, by one byte after the other. Assumes nothing.
-use mathlib.Core.Path.{◌≡◌, ◌∙◌}
+-- For `char_end`, Boundaries, Scans and Shorts: a run of UTF8-tails is what the library counts, and a run of ASCII bytes is a run of characters, by one
+-- byte after the other. Assumes nothing.
+use mathlib.Core.Path.{◌≡◌, refl, ◌∙◌}
 use mathlib.Core.Bool.{Bool, true}
-use mathlib.Core.List.{List}
+use mathlib.Core.List.{List, [], ◌∷◌}
 use Prim.Native.Nat.{ℕ, zero, suc, ◌+◌, ◌≤◌, ◌<◌}
 use native.Mathlib.Omega.{arith}
 use borrow.Author.Tests.{ltb-true, ltb-false}
 use lib.Dec.{ltb}
 use lib.ListN.{length, drop}
 use lib.Seq.{drop-cons}
+use Rattle.std.specs.List.{prefix_len}
 use Rattle.base.specs.Bytes.{byte}
-use Rattle.base.specs.Runs.{reach, past}
+use Rattle.base.specs.Runs.{run, reach, past}
 use Rattle.base.proofs.Reaches.{reach_step, reach_stop, reach_end}
 use Rattle.base.proofs.Tests.{by_cases}
 use Rattle.base.proofs.Walks.{past_step}
 use Rattle.utf8.specs.Grammar.{char_size}
+use Rattle.utf8.specs.Check.{is_tail, in_tails}
 use Rattle.utf8.proofs.Chars.{ascii_size}
+
+-- a run of UTF8-tails
+pub tails_run : (s : List ℕ) → prefix_len is_tail s ≡ run in_tails s
+unfolding run
+tails_run [] = refl
+tails_run (a ∷ s) = by_cases (is_tail a) (λ e. rw (e, tails_run s) (omega arith)) (λ e. rw e)
 
 -- a run of ASCII bytes is a run of characters
 pub ascii_past : (s : List ℕ) (i : ℕ) → i < length s → byte s i < 0x80 → past char_size s (i + 1) ≡ past char_size s i

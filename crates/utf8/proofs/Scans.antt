@@ -1,24 +1,26 @@
 -- For `past_chars`, `past_short` and `check`: from each character to the next the valid prefix stays the same. By one step of the run. Assumes nothing.
 use mathlib.Core.Path.{◌≡◌, refl, sym, ◌∙◌}
 use mathlib.Core.List.{List}
-use Prim.Native.Nat.{ℕ, zero, suc, ◌+◌, ◌-◌, ◌≤◌, ◌<◌, ◌^◌}
+use Prim.Native.Nat.{ℕ, suc, ◌+◌, ◌-◌, ◌≤◌, ◌<◌, ◌^◌}
 use native.Mathlib.Omega.{arith}
-use borrow.Author.Tests.{eq-eqb, ne_eqb, lt-ltb, ltb-true, ltb-false}
-use lib.Dec.{ltb}
+use borrow.Author.Tests.{eq-eqb, ne_eqb, lt-ltb}
 use lib.ListN.{length, take, drop, length-drop}
 use mir.Syntax.{w64}
 use mir.Val.{Fits}
+use Rattle.std.specs.Prelude.{Option, Some, None, Result, Ok, Err}
+use Rattle.std.specs.Option.{ok_or}
+use Rattle.base.specs.Helpers.{nonzero}
 use Rattle.base.specs.Bytes.{byte}
 use Rattle.base.specs.Runs.{reach}
 use Rattle.base.proofs.Reaches.{rest_is, reach_one, reach_ge, reach_le}
-use Rattle.base.proofs.Tests.{by_cases}
 use Rattle.base.proofs.Walks.{past_step, past_stop, past_end}
 use Rattle.utf8.specs.Grammar.{char_size, valid_to}
 use Rattle.utf8.specs.Helpers.{in_ascii}
-use Rattle.utf8.specs.Onward.{Onward, Passed}
+use Rattle.utf8.specs.Onward.{Onward, Stops, Passed}
 use Rattle.utf8.specs.Check.{check_of, Checked}
-use Rattle.utf8.specs.declared.check.Verdict.TheVariants.{WellFormed, IllFormed}
+use Rattle.utf8.specs.declared.check.Utf8Error.{Utf8Error}
 use Rattle.utf8.proofs.Chars.{size_le}
+use Rattle.utf8.proofs.Nonzero.{none_zero, some_same, some_more}
 use Rattle.utf8.proofs.Runs.{reach_past}
 use Rattle.utf8.proofs.Valid.{checked}
 
@@ -42,54 +44,57 @@ module _ (s : List ℕ) (at i : ℕ) (u : Onward s at i) where
       record { later = reach_ge in_ascii s i; inside = reach_le in_ascii s i u.inside; same = reach_past in_ascii (λ a b t. t) s i } in
       rw e (onward_then s at i (reach in_ascii s i) u w)
 
-  module _ (e : ℕ) (h : e ≤ length s) where
-    pub passed_end : e ≤ i → Passed s at e i
-    passed_end g = record { onward = u; stops = λ l. absurd (omega arith) }
+  pub passed_end : (e : ℕ) → e ≤ i → Passed s at e (Ok i)
+  passed_end e g = (u, g)
 
-    module _ (l : i < e) where
-      pub run_less : (r : ℕ) → r ≡ reach in_ascii s i → byte s i < 0x80 → length s - r < length s - i
-      run_less r q a = omega (arith, reach_one in_ascii s i (omega arith) (lt-ltb (byte s i) 0x80 a))
+  module _ (e : ℕ) (h : e ≤ length s) (l : i < e) where
+    pub run_less : (r : ℕ) → r ≡ reach in_ascii s i → byte s i < 0x80 → length s - r < length s - i
+    run_less r q a = omega (arith, reach_one in_ascii s i (omega arith) (lt-ltb (byte s i) 0x80 a))
 
-      module _ (n : ℕ) (c : n ≡ char_size (take (length s - i) (drop i s))) where
-        here : n ≡ char_size (drop i s)
-        here = rw rest_is at c
+    module _ (r : Option ℕ) (c : r ≡ nonzero (char_size (take (length s - i) (drop i s)))) where
+      here : r ≡ nonzero (char_size (drop i s))
+      here = rw rest_is at c
 
-        pub passed_ill : n ≡ 0 → Passed s at e i
-        passed_ill z = record { onward = u; stops = λ l. sym here ∙ z }
+      pub passed_ill : (x : Utf8Error) → Err x ≡ ok_or r (record { valid_up_to = i }) → r ≡ None → Stops s at x.valid_up_to
+      passed_ill x v z =
+          let q : ◌≡◌ {A = Result ℕ Utf8Error} (Err x) (Err (record { valid_up_to = i })) = rw z at v in
+          let y : x ≡ record { valid_up_to = i } = cc in
+          rw y (record { onward = u; before = omega arith; none = none_zero (char_size (drop i s)) (sym z ∙ here) })
+
+      module _ (n : ℕ) (w : r ≡ Some n) where
+        size : char_size (drop i s) ≡ n
+        size = some_same (char_size (drop i s)) n (sym w ∙ here)
+
+        more : 0 < n
+        more = some_more (char_size (drop i s)) n (sym w ∙ here)
 
         pub char_fits : length s < 2 ^ 64 → Fits w64 (i + n)
-        char_fits g = record { fits = omega (arith, size_le (drop i s), length-drop i s, here) }
+        char_fits g = record { fits = omega (arith, size_le (drop i s), length-drop i s, size) }
 
-        pub char_less : (n ≡ 0 → ⊥) → length s - (i + n) < length s - i
-        char_less z = omega arith
+        pub char_less : length s - (i + n) < length s - i
+        char_less = omega (arith, more)
 
-        pub char_onward : (n ≡ 0 → ⊥) → Onward s at (i + n)
-        char_onward z = go n here z
-          where
-            go : (m : ℕ) → m ≡ char_size (drop i s) → (m ≡ 0 → ⊥) → Onward s at (i + m)
-            go zero q z = absurd (z refl)
-            go (suc k) q z = step k (sym q)
+        pub char_onward : Onward s at (i + n)
+        char_onward =
+            let z : n ≡ suc (n - 1) = omega (arith, more) in
+            rw (← z) at (step (n - 1) (size ∙ z))
 
 -- ---- the loop of `check`
 
 module _ (s : List ℕ) (i : ℕ) (u : Onward s 0 i) where
-  pub scan_end : length s ≤ i → Checked s WellFormed
+  pub scan_end : length s ≤ i → Checked s (Ok tt)
   unfolding check_of valid_to
   scan_end h =
       let e : valid_to s ≡ length s = omega (arith, u.same, u.inside, past_end char_size s i h) in
-      checked s WellFormed (rw (eq-eqb (valid_to s) (length s) e))
+      checked s (Ok tt) (rw (eq-eqb (valid_to s) (length s) e))
 
-  module _ (f e r : ℕ) (v : Onward s i f) (w : Passed s f e r) where
-    pub scan_on : Onward s 0 r
-    scan_on = onward_then s 0 i r u (onward_then s i f r v w.onward)
+  module _ (f : ℕ) (v : Onward s i f) where
+    pub scan_on : (r : ℕ) → Onward s f r → Onward s 0 r
+    scan_on r w = onward_then s 0 i r u (onward_then s i f r v w)
 
-    pub scan_ill : e ≤ length s → r < e → Checked s (IllFormed r)
+    pub scan_ill : (x : Utf8Error) → Stops s f x.valid_up_to → (r : Result (Unit {0}) Utf8Error) → r ≡ Err x → Checked s r
     unfolding check_of valid_to
-    scan_ill h l =
-        let q : valid_to s ≡ r = sym scan_on.same ∙ past_stop char_size s r (omega arith) (w.stops l) in
-        checked s (IllFormed r) (rw (q, ne_eqb r (length s) (λ q. omega arith)))
-
-    pub scan_less : i < length s → (f < length s → f < e) → e ≤ r → length s - r < length s - i
-    scan_less l g h =
-        by_cases (ltb f (length s)) (λ q. omega (arith, g (ltb-true f (length s) q), v.later))
-        (λ q. omega (arith, ltb-false f (length s) q, w.onward.later))
+    scan_ill x w r e =
+        let n = x.valid_up_to in
+        let q : valid_to s ≡ n = sym (scan_on n w.onward).same ∙ past_stop char_size s n w.before w.none in
+        checked s r (e ∙ rw (q, ne_eqb n (length s) (λ z. omega (arith, w.before))))

@@ -8,13 +8,13 @@ use borrow.Author.Tests.{eqb-true, eqb-false}
 use lib.Dec.{eqb}
 use lib.ListN.{length, take, drop, length-append, length-drop, take-append-drop}
 use lib.Seq.{drop-append_seam, take-add, take-length, length-take-le}
+use Rattle.std.specs.Prelude.{Result, Ok, Err}
 use Rattle.base.specs.Runs.{past}
 use Rattle.base.proofs.Tests.{by_cases}
 use Rattle.base.proofs.Walks.{past_step, past_stop, past_end, past_le}
 use Rattle.utf8.specs.Grammar.{Char, Octets, none, more, char_size, valid_to}
 use Rattle.utf8.specs.Check.{check_of, FirstIll, Checked}
-use Rattle.utf8.specs.declared.check.Verdict.{Verdict}
-use Rattle.utf8.specs.declared.check.Verdict.TheVariants.{WellFormed, IllFormed}
+use Rattle.utf8.specs.declared.check.Utf8Error.{Utf8Error}
 use Rattle.utf8.proofs.Chars.{char_of_size, size_le, size_of_char, char_shape}
 
 -- the run of characters from i on is the valid prefix of the rest
@@ -90,31 +90,31 @@ first_ill s d =
     }
 
 -- the answer of the check
-pub checked : (s : List ℕ) (r : Verdict) → r ≡ check_of s → Checked s r
+pub checked : (s : List ℕ) (r : Result (Unit {0}) Utf8Error) → r ≡ check_of s → Checked s r
 unfolding check_of
 checked s r q =
-    by_cases (eqb (valid_to s) (length s)) (λ e. let p : r ≡ WellFormed = rw e at q in
+    by_cases (eqb (valid_to s) (length s)) (λ e. let p : r ≡ Ok tt = rw e at q in
     record {
       same = q;
       whole = λ w. valid_octets s (eqb-true (valid_to s) (length s) e);
       only = λ o. p;
-      first = λ n w. let z : ◌≡◌ {A = ℕ} 0 1 = cc in absurd (omega arith);
+      first = λ x w. let z : ◌≡◌ {A = ℕ} 0 1 = cc in absurd (omega arith);
     })
-    (λ e. let p : r ≡ IllFormed (valid_to s) = rw e at q in
+    (λ e. let p : r ≡ Err (record { valid_up_to = valid_to s }) = rw e at q in
     record {
       same = q;
       whole = λ w. let z : ◌≡◌ {A = ℕ} 0 1 = cc in absurd (omega arith);
       only = λ o. absurd (eqb-false (valid_to s) (length s) e (octets_valid o));
-      first = λ n w. let z : valid_to s ≡ n = cc in rw z at (first_ill s (eqb-false (valid_to s) (length s) e));
+      first = λ x w. let z : valid_to s ≡ x.valid_up_to = cc in rw z at (first_ill s (eqb-false (valid_to s) (length s) e));
     })
 
 -- the answer says where the valid prefix ends
-pub whole_end_lem : (s : List ℕ) (r : Verdict) → Checked s r → r ≡ WellFormed → length s ≡ valid_to s
+pub whole_end_lem : (s : List ℕ) (r : Result (Unit {0}) Utf8Error) → Checked s r → r ≡ Ok tt → length s ≡ valid_to s
 whole_end_lem s r c e = sym (octets_valid (c.whole e))
 
-pub ill_end : (s : List ℕ) (r : Verdict) (n : ℕ) → Checked s r → r ≡ IllFormed n → n ≡ valid_to s
+pub ill_end : (s : List ℕ) (r : Result (Unit {0}) Utf8Error) (x : Utf8Error) → Checked s r → r ≡ Err x → x.valid_up_to ≡ valid_to s
 unfolding check_of
-ill_end s r n c e =
+ill_end s r x c e =
     let q = sym e ∙ c.same in
-    by_cases (eqb (valid_to s) (length s)) (λ z. let p : IllFormed n ≡ WellFormed = rw z at q in cc)
-    (λ z. let p : IllFormed n ≡ IllFormed (valid_to s) = rw z at q in cc)
+    by_cases (eqb (valid_to s) (length s)) (λ z. let p : ◌≡◌ {A = Result (Unit {0}) Utf8Error} (Err x) (Ok tt) = rw z at q in cc)
+    (λ z. let p : ◌≡◌ {A = Result (Unit {0}) Utf8Error} (Err x) (Err (record { valid_up_to = valid_to s })) = rw z at q in cc)

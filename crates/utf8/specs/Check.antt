@@ -1,17 +1,16 @@
 -- What the check of a text answers, and whether an offset is inside a character.
-use Rattle.std.specs.Prelude.{◌≡◌, Bool, List, ◌++◌, ℕ, ◌≤◌, ◌<◌, eqb, length, take, drop}
+use Rattle.std.specs.Prelude.{◌≡◌, Bool, List, ◌++◌, ℕ, ◌≤◌, ◌<◌, eqb, length, take, drop, Result, Ok, Err}
 use Rattle.base.specs.Choice.{pick}
 use Rattle.base.specs.Bytes.{byte, within}
 use Rattle.base.specs.Runs.{reach}
 use Rattle.utf8.specs.Grammar.{Char, Octets, valid_to}
-use Rattle.utf8.specs.declared.check.Verdict.{Verdict}
-use Rattle.utf8.specs.declared.check.Verdict.TheVariants.{WellFormed, IllFormed}
+use Rattle.utf8.specs.declared.check.Utf8Error.{Utf8Error}
 
--- Types of the code (src/check.rt). `Verdict`: `WellFormed`, or `IllFormed n`, n being where the first ill-formed sequence begins.
+-- Types of the code (src/check.rt). `Utf8Error`: where the first ill-formed sequence begins, `valid_up_to`.
 
 -- well formed where the valid prefix is the whole
-unfoldable pub check_of : List ℕ → Verdict
-check_of s = pick (eqb (valid_to s) (length s)) WellFormed (IllFormed (valid_to s))
+unfoldable pub check_of : List ℕ → Result (Unit {0}) Utf8Error
+check_of s = pick (eqb (valid_to s) (length s)) (Ok tt) (Err (record { valid_up_to = valid_to s }))
 
 -- document 01, refusal 2: "the offset is the first byte of the first ill-formed sequence"
 pub record FirstIll (s : List ℕ) (n : ℕ) : Type 0 where
@@ -21,11 +20,11 @@ pub record FirstIll (s : List ℕ) (n : ℕ) : Type 0 where
   pub ill : (c t : List ℕ) → drop n s ≡ c ++ t → Char c → ⊥
 
 -- the answer, both ways: well formed exactly where the grammar accepts the whole, else the first ill-formed sequence
-pub record Checked (s : List ℕ) (r : Verdict) : Type 0 where
+pub record Checked (s : List ℕ) (r : Result (Unit {0}) Utf8Error) : Type 0 where
   pub same : r ≡ check_of s
-  pub whole : r ≡ WellFormed → Octets s
-  pub only : Octets s → r ≡ WellFormed
-  pub first : (n : ℕ) → r ≡ IllFormed n → FirstIll s n
+  pub whole : r ≡ Ok tt → Octets s
+  pub only : Octets s → r ≡ Ok tt
+  pub first : (e : Utf8Error) → r ≡ Err e → FirstIll s e.valid_up_to
 
 -- UTF8-tail: no character begins with it
 unfoldable pub is_tail : ℕ → Bool

@@ -1,5 +1,5 @@
 // The check of a text.
-ghost use Rattle.std.specs.Prelude.{◌≡◌, ◌≤◌, ◌<◌, length};
+ghost use Rattle.std.specs.Prelude.{◌≡◌, ◌≤◌, length};
 ghost use Rattle.utf8.specs.Onward.{Passed};
 ghost use Rattle.utf8.specs.Check.{Checked, inside_char, char_end};
 
@@ -7,31 +7,19 @@ use crate::ascii::past_ascii;
 use crate::character::{char_size, is_tail};
 use crate::short::past_short;
 
-// Whether a text is UTF-8.
-#[derive(Clone, Copy)]
-pub enum Verdict {
-    WellFormed,
+// Why a text is not UTF-8.
+#[derive(Clone, Copy, PartialEq, Eq, Debug)]
+pub struct Utf8Error {
     // The offset of the first byte of the first ill-formed sequence.
-    IllFormed(usize),
+    pub valid_up_to: usize,
 }
 
 // How many bytes are checked character by character after a window that fails, so that a text of longer characters does not try a window
 // at each.
 const STRETCH: usize = 256;
 
-// The end of the stretch at `from`, in a text of `len` bytes.
-fn stretch_end(from: usize, len: usize) -> usize
-    requires { from ≤ len }
-    ensures { (result ≤ len) × (from < len → from < result) }
-{
-    if len - from < STRETCH {
-        return len;
-    }
-    from + STRETCH
-}
-
-// The first place between characters from `end` on, or the place before it at which no character stands.
-fn past_chars(text: &[u8], at: usize, end: usize) -> usize
+// The first place between characters from `end` on, or the error where no character stands at a place before it.
+fn past_chars(text: &[u8], at: usize, end: usize) -> Result<usize, Utf8Error>
     requires { (at ≤ length text.now) × (end ≤ length text.now) }
     ensures { Passed text.now at end result }
 {
@@ -40,30 +28,23 @@ fn past_chars(text: &[u8], at: usize, end: usize) -> usize
         if text[i] < 0x80 {
             i = past_ascii(text, i);
         } else {
-            let n = char_size(&text[i..]);
-            if n == 0 {
-                return i;
-            }
-            i += n;
+            i += char_size(&text[i..]).ok_or(Utf8Error { valid_up_to: i })?;
         }
     }
-    i
+    Ok(i)
 }
 
 // Windows of short characters first, and then a stretch of any.
-pub fn check(text: &[u8]) -> Verdict
+pub fn check(text: &[u8]) -> Result<(), Utf8Error>
     ensures { Checked text.now result }
 {
     let mut i = 0;
     while i < text.len() {
         let from = past_short(text, i);
-        let end = stretch_end(from, text.len());
-        i = past_chars(text, from, end);
-        if i < end {
-            return Verdict::IllFormed(i);
-        }
+        let end = text.len().min(from.saturating_add(STRETCH));
+        i = past_chars(text, from, end)?;
     }
-    Verdict::WellFormed
+    Ok(())
 }
 
 // Whether an offset of a well-formed text is inside a character.
@@ -77,13 +58,8 @@ pub fn is_inside(text: &[u8], offset: usize) -> bool
 pub fn char_end(s: &[u8], at: usize) -> usize
     ensures { result ≡ char_end s.now at }
 {
-    let mut i = at;
-    while i < s.len() {
-        if is_tail(s[i]) {
-            i += 1;
-        } else {
-            return i;
-        }
-    }
-    i
+    let Some(rest) = s.get(at..) else {
+        return at;
+    };
+    at + rest.iter().take_while(|b| is_tail(**b)).count()
 }

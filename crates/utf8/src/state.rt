@@ -1,16 +1,17 @@
 // The check one byte at a time, for bytes that stand in no slice.
-ghost use Rattle.std.specs.Prelude.{◌≡◌, eqb, ◌≤◌};
-ghost use Rattle.base.specs.Choice.{pick};
+ghost use Rattle.std.specs.Prelude.{◌≡◌, ◌≤◌};
 ghost use Rattle.base.specs.Bytes.{within};
-ghost use Rattle.utf8.specs.State.{fresh, length_of, lead_of, push};
+ghost use Rattle.utf8.specs.State.{length_of, lead_of, is_between, push, push_all};
 
-// What the character that has begun still wants: `need` bytes more, the next of them from `lo` to `hi`.
-// `need` 0: between characters. `need` 4: ill-formed, and it stays so.
-#[derive(Clone, Copy)]
-pub struct State {
-    pub need: u8,
-    pub lo: u8,
-    pub hi: u8,
+// What the character that has begun still wants.
+#[derive(Clone, Copy, PartialEq, Eq, Debug)]
+pub enum State {
+    // No character has begun.
+    Between,
+    // A byte from `lo` to `hi`, and then `tails` bytes of UTF8-tail.
+    Wants { lo: u8, hi: u8, tails: u8 },
+    // No character begins or goes on so, and it stays so.
+    IllFormed,
 }
 
 // Whether `a` can be the first byte of a character of several.
@@ -29,73 +30,85 @@ pub fn length_of(a: u8) -> usize
     u8::leading_zeros(255 - a) as usize
 }
 
-// `p` where `a` is `x`, `q` where it is `y`, and else `other`.
-fn choose(a: u8, x: u8, p: u8, y: u8, q: u8, other: u8) -> u8
-    ensures { result ≡ pick (eqb a x) p (pick (eqb a y) q other) }
+// A byte from `lo` to `hi` is wanted, and then `tails` bytes of UTF8-tail.
+fn wants(lo: u8, hi: u8, tails: u8) -> State
+    ensures { result ≡ State.Wants lo hi tails }
 {
-    if a == x {
-        return p;
-    }
-    if a == y {
-        return q;
-    }
-    other
+    State::Wants { lo, hi, tails }
 }
 
 impl State {
     // Between characters.
     pub fn start() -> State
-        ensures { result ≡ fresh }
+        ensures { result ≡ State.Between }
     {
-        State {
-            need: 0,
-            lo: 0x80,
-            hi: 0xBF,
-        }
+        State::Between
+    }
+
+    // Whether no character has begun.
+    pub fn is_between(self) -> bool
+        ensures { result ≡ is_between self }
+    {
+        matches!(self, State::Between)
     }
 
     // What the first byte of a character wants after it.
-    fn lead(a: u8) -> State
+    pub(crate) fn lead(a: u8) -> State
         ensures { result ≡ lead_of a }
     {
         if a < 0x80 {
-            return State::start();
+            return State::Between;
         }
         if !is_first(a) {
-            return State {
-                need: 4,
-                lo: 0x80,
-                hi: 0xBF,
-            };
+            return State::IllFormed;
         }
-        let need = (length_of(a) - 1) as u8;
         // a smaller second byte would make an overlong form, a greater one a surrogate or a value above 0x10FFFF
-        let lo = choose(a, 0xE0, 0xA0, 0xF0, 0x90, 0x80);
-        let hi = choose(a, 0xED, 0x9F, 0xF4, 0x8F, 0xBF);
-        State { need, lo, hi }
+        match length_of(a) {
+            2 => wants(0x80, 0xBF, 0),
+            3 => match a {
+                0xE0 => wants(0xA0, 0xBF, 1),
+                0xED => wants(0x80, 0x9F, 1),
+                _ => wants(0x80, 0xBF, 1),
+            },
+            _ => match a {
+                0xF0 => wants(0x90, 0xBF, 2),
+                0xF4 => wants(0x80, 0x8F, 2),
+                _ => wants(0x80, 0xBF, 2),
+            },
+        }
     }
 
     // The state after one byte more.
     pub fn push(self, b: u8) -> State
         ensures { result ≡ push self b }
     {
-        if self.need == 0 {
-            return State::lead(b);
+        match self {
+            State::Between => State::lead(b),
+            State::Wants { lo, hi, tails } => {
+                if (b < lo) | (hi < b) {
+                    return State::IllFormed;
+                }
+                if tails == 0 {
+                    return State::Between;
+                }
+                State::Wants {
+                    lo: 0x80,
+                    hi: 0xBF,
+                    tails: tails - 1,
+                }
+            }
+            State::IllFormed => State::IllFormed,
         }
-        if self.need == 4 {
-            return self;
+    }
+
+    // The state after all of some bytes.
+    pub fn push_all(self, bytes: &[u8]) -> State
+        ensures { result ≡ push_all self bytes.now }
+    {
+        let mut state = self;
+        for b in bytes {
+            state = state.push(*b);
         }
-        if (b < self.lo) | (self.hi < b) {
-            return State {
-                need: 4,
-                lo: 0x80,
-                hi: 0xBF,
-            };
-        }
-        State {
-            need: self.need - 1,
-            lo: 0x80,
-            hi: 0xBF,
-        }
+        state
     }
 }

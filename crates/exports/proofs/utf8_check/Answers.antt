@@ -2,8 +2,8 @@
 use Rattle.utf8.proofs.Valid.{whole_end_lem, ill_end}
 use Rattle.exports.proofs.utf8_check.Goals as goal
 
-pub returns-in-WellFormed : goal.returns-in-WellFormed
-returns-in-WellFormed c = search whole_end_lem
+pub returns-in-Ok : goal.returns-in-Ok
+returns-in-Ok c = search whole_end_lem
 
-pub returns-in-IllFormed : goal.returns-in-IllFormed
-returns-in-IllFormed c = search ill_end
+pub returns-in-Err : goal.returns-in-Err
+returns-in-Err c = search ill_end

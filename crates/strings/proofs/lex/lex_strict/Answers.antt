@@ -5,8 +5,8 @@ use Rattle.strings.proofs.lex.lex_strict.Goals as goal
 pub returns-then-reason-ne-NONE : goal.returns-then-reason-ne-NONE
 returns-then-reason-ne-NONE c = search strict_bad
 
-pub returns-then-need-ne0 : goal.returns-then-need-ne0
-returns-then-need-ne0 c = search strict_ill
+pub returns-then-not-is_between : goal.returns-then-not-is_between
+returns-then-not-is_between c = search strict_ill
 
 pub returns : goal.returns
 returns c = search strict_string

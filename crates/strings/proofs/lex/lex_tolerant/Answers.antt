@@ -5,8 +5,8 @@ use Rattle.strings.proofs.lex.lex_tolerant.Goals as goal
 pub overflow_add-reports : goal.overflow_add-reports
 overflow_add-reports c = search notes_fit
 
-pub returns-then-need-eq0 : goal.returns-then-need-eq0
-returns-then-need-eq0 c = search tolerant_string
+pub returns-then-is_between : goal.returns-then-is_between
+returns-then-is_between c = search tolerant_string
 
 pub returns : goal.returns
 returns c = search tolerant_ill

@@ -16,11 +16,11 @@ parted c = measuring_part c.loop-mode.invariant c.part_at-part.ensures
 
 -- after a step that goes on
 stepped : (c : After-report_count-reports) → let a = c.args in let r = c.part_at-part.result in Measuring a.mode a.s.now (r.end + c.in-Go.used)
-    (c.loop-mode.count + r.count + c.in-Go.n) (c.loop-mode.reports + c.report_count-reports.result) c.feed-state.result
+    (c.loop-mode.count + r.count + c.in-Go.encoded.len) (c.loop-mode.reports + c.report_count-reports.result) c.push_all-state.result
 stepped c =
     let parted : let a = c.args in let r = c.part_at-part.result in Measuring a.mode a.s.now r.end (c.loop-mode.count + r.count) c.loop-mode.reports
     c.loop-mode.state = measuring_part c.loop-mode.invariant c.part_at-part.ensures in
-    measuring_go parted c.step_at-st.ensures c.in-Go.is _ _ c.feed-state.ensures c.report_count-reports.ensures
+    measuring_go parted c.step_at-st.ensures c.in-Go.is _ _ (rw c.as_slice.ensures at c.push_all-state.ensures) c.report_count-reports.ensures
 
 pub loop-mode-init : goal.loop-mode-init
 loop-mode-init c = search measuring_first
@@ -45,8 +45,8 @@ step_at-st-requires c =
     let at = goal.at.step_at-st-requires c in
     (parted at.After-struct_known-1).inside
 
-pub feed-state-requires : goal.feed-state-requires
-feed-state-requires c = search step_four
+pub as_slice-requires : goal.as_slice-requires
+as_slice-requires c = search step_four
 
 pub overflow_add-count-in-Go : goal.overflow_add-count-in-Go
 overflow_add-count-in-Go c =
@@ -73,7 +73,7 @@ loop-mode-smaller c =
 pub loop-mode-preserved : goal.loop-mode-preserved
 loop-mode-preserved c =
     let at = goal.at.loop-mode-preserved c in
-    measuring_go (parted at.After-struct_known-1) c.step_at-st.ensures c.in-Go.is _ _ c.feed-state.ensures
+    measuring_go (parted at.After-struct_known-1) c.step_at-st.ensures c.in-Go.is _ _ (rw c.as_slice.ensures at c.push_all-state.ensures)
     c.report_count-reports.ensures
 
 pub returns-in-Stop : goal.returns-in-Stop

@@ -4,8 +4,8 @@ use Rattle.strings.proofs.Notings.{note_fits, noting_note, noting_none, end_room
 use Rattle.strings.proofs.Decodes.{step_less, run_ge, run_in}
 use Rattle.strings.proofs.notes.put_tolerant_notes.Goals as goal
 
-pub loop-b-init : goal.loop-b-init
-loop-b-init c = search noting_first
+pub loop-encoded-init : goal.loop-encoded-init
+loop-encoded-init c = search noting_first
 
 pub step_at-st-requires : goal.step_at-st-requires
 step_at-st-requires c = search run_in
@@ -13,11 +13,11 @@ step_at-st-requires c = search run_in
 pub overflow_add-i : goal.overflow_add-i
 overflow_add-i c = search text_fits
 
-pub loop-b-smaller-then-reason-eq-NONE : goal.loop-b-smaller-then-reason-eq-NONE
-loop-b-smaller-then-reason-eq-NONE c = search (step_less, run_ge, run_in)
+pub loop-encoded-smaller-then-reason-eq-NONE : goal.loop-encoded-smaller-then-reason-eq-NONE
+loop-encoded-smaller-then-reason-eq-NONE c = search (step_less, run_ge, run_in)
 
-pub loop-b-preserved-then-reason-eq-NONE : goal.loop-b-preserved-then-reason-eq-NONE
-loop-b-preserved-then-reason-eq-NONE c = search noting_go
+pub loop-encoded-preserved-then-reason-eq-NONE : goal.loop-encoded-preserved-then-reason-eq-NONE
+loop-encoded-preserved-then-reason-eq-NONE c = search noting_go
 
 pub overflow_add-first : goal.overflow_add-first
 overflow_add-first c = search to_fits
@@ -31,11 +31,11 @@ put_note-place-requires c = search (note_walks, note_small, note_room)
 pub overflow_add-p : goal.overflow_add-p
 overflow_add-p c = search note_fits
 
-pub loop-b-smaller : goal.loop-b-smaller
-loop-b-smaller c = search (step_less, run_ge, run_in)
+pub loop-encoded-smaller : goal.loop-encoded-smaller
+loop-encoded-smaller c = search (step_less, run_ge, run_in)
 
-pub loop-b-preserved : goal.loop-b-preserved
-loop-b-preserved c = search noting_note
+pub loop-encoded-preserved : goal.loop-encoded-preserved
+loop-encoded-preserved c = search noting_note
 
 pub returns-then-reason-eq-NONE-2 : goal.returns-then-reason-eq-NONE-2
 returns-then-reason-eq-NONE-2 c = search noting_none

@@ -4,8 +4,8 @@ use lib.ListN.{length}
 use Prim.Native.Nat.{◌-◌}
 use Rattle.strings.proofs.notes.put_tolerant_notes.Given as goal
 
-abbrev pub invariant-loop-b : goal.invariant-loop-b
-invariant-loop-b l = Noting l.text l.start l.initial.out l.at l.s l.out l.i l.p l.place
+abbrev pub invariant-loop-encoded : goal.invariant-loop-encoded
+invariant-loop-encoded l = Noting l.text l.start l.initial.out l.at l.s l.out l.i l.p l.place
 
-abbrev pub decreases-loop-b : goal.decreases-loop-b
-decreases-loop-b l = length l.s - l.i
+abbrev pub decreases-loop-encoded : goal.decreases-loop-encoded
+decreases-loop-encoded l = length l.s - l.i

@@ -20,11 +20,11 @@ overflow_add-r c = search run_fits_2
 pub loop-k-preserved : goal.loop-k-preserved
 loop-k-preserved c = search run_more
 
-pub encode_rune-requires : goal.encode_rune-requires
-encode_rune-requires c = search valid_low
+pub encode-requires : goal.encode-requires
+encode-requires c = search valid_low
 
 pub returns-then-valid_rune : goal.returns-then-valid_rune
-returns-then-valid_rune c = search code_read
+returns-then-valid_rune c = rw c.encode.ensures (search code_read)
 
 pub returns : goal.returns
 returns c = search code_read

@@ -5,8 +5,8 @@ use Rattle.triple_strings.proofs.lines.is_blank.Goals as goal
 pub loop-i-init : goal.loop-i-init
 loop-i-init c = search blanking_first
 
-pub returns-then-n-eq0 : goal.returns-then-n-eq0
-returns-then-n-eq0 c = search blanking_stop
+pub returns-in_default : goal.returns-in_default
+returns-in_default c = search blanking_stop
 
 pub overflow_add-i : goal.overflow_add-i
 overflow_add-i c = search blanking_fits

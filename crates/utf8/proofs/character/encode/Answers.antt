@@ -5,16 +5,15 @@ use Rattle.utf8.proofs.character.encode.Goals as goal
 
 pub returns-then-code-lt128 : goal.returns-then-code-lt128
 unfolding encode_of
-returns-then-code-lt128 c = rw (c.octets.ensures, lt-ltb _ _ c.if-code-lt128.true)
+returns-then-code-lt128 c = rw (lt-ltb _ _ c.if-code-lt128.true)
 
 pub returns-then-code-lt2048 : goal.returns-then-code-lt2048
 unfolding encode_of
-returns-then-code-lt2048 c = rw (c.octets-then-code-lt2048.ensures, le-ltb _ _ c.if-code-lt128.false, lt-ltb _ _ c.if-code-lt2048.true, c.tail_of.ensures)
+returns-then-code-lt2048 c = rw (le-ltb _ _ c.if-code-lt128.false, lt-ltb _ _ c.if-code-lt2048.true, c.tail_of.ensures)
 
 pub returns-then-code-lt65536 : goal.returns-then-code-lt65536
 unfolding encode_of
 returns-then-code-lt65536 c = rw (
-  c.octets-then-code-lt65536.ensures,
   le-ltb _ _ c.if-code-lt128.false,
   le-ltb _ _ c.if-code-lt2048.false,
   lt-ltb _ _ c.if-code-lt65536.true,
@@ -25,7 +24,6 @@ returns-then-code-lt65536 c = rw (
 pub returns : goal.returns
 unfolding encode_of
 returns c = rw (
-  c.octets-2.ensures,
   le-ltb _ _ c.if-code-lt128.false,
   le-ltb _ _ c.if-code-lt2048.false,
   le-ltb _ _ c.if-code-lt65536.false,

@@ -1,2 +1,1 @@
 pub mod Escaped
-pub mod Room

@@ -39,10 +39,10 @@ use Rattle.listing_lines.proofs.Lines.{refused_length}
 
 -- a number below 10,000 has at most four digits, one below 100 at most two
 four : (n : ℕ) → n < 10000 → length (number_text (pos n)) ≤ 4
-four n h = digits_few 20 3 n (omega arith)
+four n h = digits_few 4 n (omega arith) (omega arith) (omega arith)
 
 two : (n : ℕ) → n < 100 → length (number_text (pos n)) ≤ 2
-two n h = digits_few 20 1 n (omega arith)
+two n h = digits_few 2 n (omega arith) (omega arith) (omega arith)
 
 -- the line of a token of a text of at most 8,192 bytes
 module _ (text : List ℕ) (h : length text ≤ 8192) where

@@ -30,68 +30,51 @@ pub enum Listed {
     OutShort,
 }
 
-// The numbers of the line of the record at `i`.
-fn line_numbers(tokens: &[i64], i: usize) -> [i64; 7]
-    requires { i + record_width ≤ length tokens.now }
-    ensures { result ≡ line_at (drop i tokens.now) }
+// The numbers of the line of a record.
+fn line_numbers(numbers: &[i64; RECORD_WIDTH]) -> [i64; 7]
+    ensures { result ≡ line_at numbers.now }
 {
-    let kind = tokens[i];
-    let reason = tokens[i + 1];
-    let start = tokens[i + 3];
-    let end = tokens[i + 4];
-    let line = tokens[i + 5];
-    let column = tokens[i + 6];
-    let nanos = tokens[i + 11];
+    let [kind, reason, _, start, end, line, column, _, _, _, _, nanos] = *numbers;
     [start, end, line, column, kind, reason, nanos]
 }
 
-// How many bytes the line of these numbers has.
-fn line_size(row: &[i64]) -> usize
-    requires { length row.now ≤ 7 }
-    ensures { result ≡ length (line_text row.now) }
-{
-    let mut size = 0;
-    let mut k = 0;
-    while k < row.len() {
-        let z = row[k];
-        size += number_size(z) + 1;
-        k += 1;
-    }
-    size
-}
-
-// Writes the line of these numbers from `at` on, and gives where it ends.
-fn put_line(row: &[i64], out: &mut [u8], at: usize) -> usize
-    requires { at + length (line_text row.now) ≤ length out.old }
-    ensures { (result ≡ at + length (line_text row.now)) × (out.new ≡ sets out.old at (line_text row.now)) }
-{
-    let mut end = at;
-    let mut k = 0;
-    while k < row.len() {
-        let z = row[k];
-        k += 1;
-        end = write_number(out, end, z, separator_before(row.len() - k));
-    }
-    end
-}
-
-// The numbers of the line of a token.
+// The same of a token, which is measured before a record of it is stored.
 fn token_numbers(t: Token) -> [i64; 7]
     requires { RecordFits (record_of 0 t) }
     ensures { result ≡ line_numbers (record_of 0 t) }
 {
-    let kind = t.kind;
-    let number = kind.number();
-    let nanos = t.nanos;
     [
         t.start.offset as i64,
         t.end.offset as i64,
         t.start.line as i64,
         t.start.column as i64,
-        number as i64,
+        t.kind.number() as i64,
         t.reason as i64,
-        nanos,
+        t.nanos,
     ]
+}
+
+// How many bytes the line of these numbers has.
+fn line_size(row: &[i64; 7]) -> usize
+    ensures { result ≡ length (line_text row.now) }
+{
+    let mut size = 0;
+    for z in row {
+        size += number_size(*z) + 1;
+    }
+    size
+}
+
+// Writes the line of these numbers from `at` on, and gives where it ends.
+fn put_line(row: &[i64; 7], out: &mut [u8], at: usize) -> usize
+    requires { at + length (line_text row.now) ≤ length out.old }
+    ensures { (result ≡ at + length (line_text row.now)) × (out.new ≡ sets out.old at (line_text row.now)) }
+{
+    let mut end = at;
+    for (k, z) in row.iter().enumerate() {
+        end = write_number(out, end, *z, separator_before(row.len() - 1 - k));
+    }
+    end
 }
 
 // How many bytes the lines of a text's tokens have. It writes nothing, so that the out buffer is measured before the text is read.
@@ -104,10 +87,8 @@ fn lines_size(text: &[u8]) -> usize
     let mut size = 0;
     loop {
         let t = next_token(text, place, Reading::Strict, limit);
-        let kind = t.kind;
-        let row = token_numbers(t);
-        size += line_size(&row);
-        if kind.is_eof() {
+        size += line_size(&token_numbers(t));
+        if t.kind.is_eof() {
             return size;
         }
         place = t.end;
@@ -129,12 +110,10 @@ fn put_lines(tokens: &[i64], count: usize, out: &mut [u8])
     requires { (count * record_width ≤ length tokens.now) × (length (row_lines count tokens.now) ≤ length out.old) }
     ensures { out.new ≡ sets out.old 0 (row_lines count tokens.now) }
 {
+    let (records, _) = tokens.as_chunks::<RECORD_WIDTH>();
     let mut end = 0;
-    let mut i = 0;
-    while i < count {
-        let row = line_numbers(tokens, i * RECORD_WIDTH);
-        end = put_line(&row, out, end);
-        i += 1;
+    for numbers in &records[..count] {
+        end = put_line(&line_numbers(numbers), out, end);
     }
 }
 

@@ -1,22 +1,9 @@
--- `answer` lends slices of the buffers, none longer than its buffer. Assumes nothing.
-use mathlib.Core.Path.{sym}
-use lib.Seq.{length-take-le}
+-- `answer` prints what an accepted reading counts, which lies in the buffers that it was lent.
+use Rattle.reading.proofs.AnswerBounds.{text_inside, one_inside}
 use Rattle.cases.proofs.answer.Goals as goal
 
-pub slice_bounds-answer_text-end : goal.slice_bounds-answer_text-end
-slice_bounds-answer_text-end c = sym (length-take-le _ _ c.requires.tokens)
+pub print_counts-requires : goal.print_counts-requires
+print_counts-requires c = text_inside c.read_text.ensures c.in-Counts.is
 
-pub slice_bounds-answer_text-end-in-Whole : goal.slice_bounds-answer_text-end-in-Whole
-slice_bounds-answer_text-end-in-Whole c = sym (length-take-le _ _ c.requires.strings)
-
-pub slice_bounds-answer_text-end-in-Whole-2 : goal.slice_bounds-answer_text-end-in-Whole-2
-slice_bounds-answer_text-end-in-Whole-2 c = sym (length-take-le _ _ c.requires.reports)
-
-pub slice_bounds-answer_token-end : goal.slice_bounds-answer_token-end
-slice_bounds-answer_token-end c = sym (length-take-le _ _ c.requires.tokens)
-
-pub slice_bounds-answer_token-end-in-OneToken : goal.slice_bounds-answer_token-end-in-OneToken
-slice_bounds-answer_token-end-in-OneToken c = sym (length-take-le _ _ c.requires.strings)
-
-pub slice_bounds-answer_token-end-in-OneToken-2 : goal.slice_bounds-answer_token-end-in-OneToken-2
-slice_bounds-answer_token-end-in-OneToken-2 c = search length-take-le
+pub print_counts-requires-in-One : goal.print_counts-requires-in-One
+print_counts-requires-in-One c = one_inside c.read_token.ensures c.in-One.is

@@ -18,18 +18,15 @@ token_is c = rw c.default_bytes_limit-limit.ensures at c.next_token-t.ensures
 
 -- the size of its line
 size_is : (c : After-line_size-size) → c.line_size-size.result ≡ length (line_text (line_numbers (record_of 0 c.next_token-t.result)))
-size_is c = rw c.token_numbers-row.ensures at c.line_size-size.ensures
+size_is c = rw c.token_numbers.ensures at c.line_size-size.ensures
 
 pub loop-t-init : goal.loop-t-init
 loop-t-init c = search measuring_start
 
-pub token_numbers-row-requires : goal.token_numbers-row-requires
-token_numbers-row-requires c =
-    let at = goal.at.token_numbers-row-requires c in
+pub token_numbers-requires : goal.token_numbers-requires
+token_numbers-requires c =
+    let at = goal.at.token_numbers-requires c in
     token_fits c.loop-t.invariant (token_is at.After-next_token-t) (λ k. (c.type_inv.text k).fits)
-
-pub line_size-size-requires : goal.line_size-size-requires
-line_size-size-requires c = rw c.token_numbers-row.ensures (omega arith)
 
 pub overflow_add-size : goal.overflow_add-size
 overflow_add-size c =

@@ -1,12 +1,8 @@
--- `put_line` writes a line number by number. Assumes nothing.
-use Prim.Native.Nat.{◌-◌, ◌≤◌}
-use lib.ListN.{length, drop}
+-- `put_line` writes a line number by number.
+use Rattle.std.proofs.Common.{drop}
 use Rattle.base.proofs.Storings.{Storing}
 use Rattle.listing_lines.specs.Lines.{line_text}
 use Rattle.listing_lines.proofs.put_line.Given as goal
 
 abbrev pub invariant-loop-k : goal.invariant-loop-k
-invariant-loop-k l = (l.k ≤ length l.row) × Storing (line_text l.row) l.initial.out l.at (line_text (drop l.k l.row)) l.out l.end
-
-abbrev pub decreases-loop-k : goal.decreases-loop-k
-decreases-loop-k l = length l.row - l.k
+invariant-loop-k l = Storing (line_text l.row) l.initial.out l.at (line_text (drop l.k l.row)) l.out l.end

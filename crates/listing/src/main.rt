@@ -5,12 +5,8 @@ ghost use Rattle.std.specs.Prelude.{◌≤◌, length};
 ghost use Rattle.listing_lines.specs.Listing.{Prints, Suffice};
 
 use listing_lines::list;
+use notation::stdio::{print, read};
 use token::layout::RECORD_WIDTH;
-
-// The descriptors of standard input and standard output.
-const STDIN_FILENO: i32 = 0;
-
-const STDOUT_FILENO: i32 = 1;
 
 // The lengths of buffers that hold the tokens of any text of at most 8,192 bytes and their lines, of which none has more than 48 bytes.
 const TOKENS: usize = 8193 * RECORD_WIDTH;
@@ -39,18 +35,16 @@ fn print_listing(text: &[u8])
     let mut reports = [0i64; 0];
     let mut out = [0u8; OUT];
     let n = fill(text, &mut tokens, &mut strings, &mut reports, &mut out);
-    io::write_all(STDOUT_FILENO, &out[..n]);
+    print(&out[..n]);
 }
 
 fn main() {
     let mut text = [0u8; 8192];
-    let n = io::read_full(STDIN_FILENO, &mut text);
-    if n == 8192 {
-        let mut more = [0u8; 1];
-        if io::read_full(STDIN_FILENO, &mut more) != 0 {
-            io::write_all(STDOUT_FILENO, b"too long\n");
-            return;
-        }
+    let text = read(&mut text);
+    let mut more = [0u8; 1];
+    if text.len() == 8192 && !read(&mut more).is_empty() {
+        print(b"too long\n");
+    } else {
+        print_listing(text);
     }
-    print_listing(&text[..n]);
 }

@@ -1,14 +1,16 @@
 -- For the loops over lines and for `list`: how long lines are, what is left of a line after some numbers and of a slice's rows after some records,
 -- and that the rows of a slice that holds records are the lines of these. By induction on the list. Assumes nothing.
-use mathlib.Core.Path.{◌≡◌, refl, sym}
+use mathlib.Core.Path.{◌≡◌, refl, sym, ◌∙◌}
 use mathlib.Core.List.{List, [], ◌∷◌, ◌++◌, append_assoc}
-use Prim.Native.Nat.{ℕ, suc, ◌+◌, ◌-◌, ◌*◌, ◌≤◌, ◌<◌}
+use Prim.Native.Nat.{ℕ, zero, suc, ◌+◌, ◌-◌, ◌*◌, ◌≤◌, ◌<◌}
 use native.Mathlib.Nat.{sub-zero}
 use native.Mathlib.Numerals.{add-one}
 use native.Mathlib.Omega.{arith}
 use lib.IntN.{ℤ, pos}
-use lib.ListN.{length, drop, get_or, length-append, length-drop, drop_of_length-le}
-use lib.Seq.{drop-cons, drop-drop}
+use lib.ListN.{length, take, drop, get_or, length-append, length-drop, drop_of_length-le}
+use lib.Seq.{drop-cons, drop-drop, get_or-take}
+use borrow.Author.Rules.{rules}
+use Rattle.std.specs.Simd.{first_chunks}
 use Rattle.notation.specs.Decimal.{number_text, separator}
 use Rattle.notation.proofs.Digits.{number_most}
 use Rattle.token.specs.Layout.{record_width}
@@ -72,6 +74,21 @@ unfolding row_lines
 rows_done T count i h =
     let e : count - i ≡ 0 = omega arith in
     rw e
+
+-- a record is a chunk of the slice
+chunk_at : (k i : ℕ) (T : List ℤ) → i < k → get_or (first_chunks record_width k T) i [] ≡ take record_width (drop (i * record_width) T)
+chunk_at zero i T h = absurd (omega arith)
+chunk_at (suc k) zero T h = refl
+chunk_at (suc k) (suc i) T h =
+    let d : record_width + i * record_width ≡ suc i * record_width = omega arith in
+    chunk_at k i (drop record_width T) (omega arith) ∙ rw (drop-drop (i * record_width) record_width T, d)
+
+line_of_chunk : (T : List ℤ) → line_at (take record_width T) ≡ line_at T
+line_of_chunk T = search (rules, get_or-take)
+
+pub line_of_record : (T : List ℤ) (n i : ℕ) {k : ℕ} {rows : List (List ℤ)} → rows ≡ first_chunks record_width k T → i < n → i < k
+    → line_at (get_or (take n rows) i []) ≡ line_at (drop (i * record_width) T)
+line_of_record T n i {k} {rows} e h l = rw (get_or-take n rows i [] h, e, chunk_at k i T l) (line_of_chunk (drop (i * record_width) T))
 
 -- they are the lines of the records that the slice begins with
 pub rows_held : (rs : List Record) (rest : List ℤ) → row_lines (length rs) (record_rows rs ++ rest) ≡ lines_of rs

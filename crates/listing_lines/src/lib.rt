@@ -26,47 +26,15 @@ use token::place::Place;
 #[derive(Clone, Copy, PartialEq, Eq, Debug)]
 pub struct OutShort;
 
-// The numbers of the line of the record at `i`.
-fn line_numbers(tokens: &[i64], i: usize) -> [i64; 7]
-    requires { i + record_width ≤ length tokens.now }
-    ensures { result ≡ line_at (drop i tokens.now) }
+// The numbers of the line of a record.
+fn line_numbers(numbers: &[i64; RECORD_WIDTH]) -> [i64; 7]
+    ensures { result ≡ line_at numbers.now }
 {
-    let kind = tokens[i];
-    let reason = tokens[i + 1];
-    let start = tokens[i + 3];
-    let end = tokens[i + 4];
-    let line = tokens[i + 5];
-    let column = tokens[i + 6];
-    let nanos = tokens[i + 11];
+    let [kind, reason, _, start, end, line, column, _, _, _, _, nanos] = *numbers;
     [start, end, line, column, kind, reason, nanos]
 }
 
-// How many bytes the line of these numbers has.
-fn line_size(row: &[i64]) -> usize
-    requires { length row.now ≤ 7 }
-    ensures { result ≡ length (line_text row.now) }
-{
-    let mut size = 0;
-    for &z in row {
-        size += number_size(z) + 1;
-    }
-    size
-}
-
-// Writes the line of these numbers from `at` on, and gives where it ends.
-fn put_line(row: &[i64], out: &mut [u8], at: usize) -> usize
-    requires { at + length (line_text row.now) ≤ length out.old }
-    ensures { (result ≡ at + length (line_text row.now)) × (out.new ≡ sets out.old at (line_text row.now)) }
-{
-    let mut end = at;
-    for k in 0..row.len() {
-        end = write_number(out, end, row[k], separator_before(row.len() - (k + 1)));
-    }
-    end
-}
-
-// The numbers of the line of a token.
-#[tactic(auto, using(base::proofs::Signed::signed))]
+// The same of a token, which is measured before a record of it is stored.
 fn token_numbers(t: Token) -> [i64; 7]
     requires { RecordFits (record_of 0 t) }
     ensures { result ≡ line_numbers (record_of 0 t) }
@@ -80,6 +48,29 @@ fn token_numbers(t: Token) -> [i64; 7]
         t.reason as i64,
         t.nanos,
     ]
+}
+
+// How many bytes the line of these numbers has.
+fn line_size(row: &[i64; 7]) -> usize
+    ensures { result ≡ length (line_text row.now) }
+{
+    let mut size = 0;
+    for z in row {
+        size += number_size(*z) + 1;
+    }
+    size
+}
+
+// Writes the line of these numbers from `at` on, and gives where it ends.
+fn put_line(row: &[i64; 7], out: &mut [u8], at: usize) -> usize
+    requires { at + length (line_text row.now) ≤ length out.old }
+    ensures { (result ≡ at + length (line_text row.now)) × (out.new ≡ sets out.old at (line_text row.now)) }
+{
+    let mut end = at;
+    for (k, z) in row.iter().enumerate() {
+        end = write_number(out, end, *z, separator_before(row.len() - 1 - k));
+    }
+    end
 }
 
 // How many bytes the lines of a text's tokens have. It writes nothing, so that the out buffer is measured before the text is read.
@@ -101,7 +92,6 @@ fn lines_size(text: &[u8]) -> usize
 }
 
 // The same of any text: 0 where it is too long or not UTF-8.
-#[tactic(auto, unfolding(crate::specs::Listing::lines_size))]
 fn listing_size(text: &[u8]) -> usize
     ensures { result ≡ lines_size text.now }
 {
@@ -116,9 +106,10 @@ fn put_lines(tokens: &[i64], count: usize, out: &mut [u8])
     requires { (count * record_width ≤ length tokens.now) × (length (row_lines count tokens.now) ≤ length out.old) }
     ensures { out.new ≡ sets out.old 0 (row_lines count tokens.now) }
 {
+    let (records, _) = tokens.as_chunks::<RECORD_WIDTH>();
     let mut end = 0;
-    for i in 0..count {
-        end = put_line(&line_numbers(tokens, i * RECORD_WIDTH), out, end);
+    for numbers in &records[..count] {
+        end = put_line(&line_numbers(numbers), out, end);
     }
 }
 

@@ -1,3 +1,2 @@
-mod Negated
-mod Signs
+mod Texts
 pub mod Digits

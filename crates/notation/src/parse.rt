@@ -1,133 +1,84 @@
 // Words, numbers and bytes of a line.
-ghost use Rattle.std.specs.Prelude.{◌≤◌, ◌<◌, ◌≡◌, length};
+ghost use Rattle.std.specs.Prelude.{◌≡◌, ◌<◌, ◌≤◌, ◌++◌, length};
+ghost use Rattle.notation.specs.Hexadecimal.{digit, hex_byte};
 
-use base::class::is_digit;
-
-// A byte as a number.
-pub fn wide(b: u8) -> u64
-    ensures { result ≡ b }
+// The next word with the blank that ends it, and what follows.
+pub fn split_word(s: &[u8]) -> (&[u8], &[u8])
+    ensures whole { s.now ≡ result.0.now ++ result.1.now }
+    ensures some { 0 < length s.now → 0 < length result.0.now }
 {
-    b as u64
+    let end = s.iter().position(|b| *b == b' ').map_or(s.len(), |i| i + 1);
+    s.split_at(end)
 }
 
-// The lesser of the two.
-pub fn at_most(n: u64, most: usize) -> usize
-    ensures { result ≤ most }
+// The value of a hexadecimal digit, in lower case.
+fn digit(b: u8) -> Option<u8>
+    ensures { result ≡ digit b }
 {
-    let m = n as usize;
-    if m < most { m } else { most }
-}
-
-// The place after the next byte `end`, or the end of the text.
-fn past(s: &[u8], from: usize, end: u8) -> usize
-    requires { from ≤ length s.now }
-    ensures { (from ≤ result) × (result ≤ length s.now) × (from < length s.now → from < result) }
-{
-    let mut i = from;
-    while i < s.len() {
-        if s[i] == end {
-            return i + 1;
-        }
-        i += 1;
+    match b {
+        b'0'..=b'9' => Some(b - b'0'),
+        b'a'..=b'f' => Some(b - b'a' + 10),
+        _ => None,
     }
-    i
 }
 
-pub fn next_word(s: &[u8], from: usize) -> usize
-    requires { from ≤ length s.now }
-    ensures { (from ≤ result) × (result ≤ length s.now) × (from < length s.now → from < result) }
+// The byte that two hexadecimal digits write. What is none counts as 16.
+pub fn hex_byte(high: u8, low: u8) -> u8
+    ensures { result ≡ hex_byte high low }
 {
-    past(s, from, b' ')
-}
-
-pub fn next_line(s: &[u8], from: usize) -> usize
-    requires { from ≤ length s.now }
-    ensures { (from ≤ result) × (result ≤ length s.now) × (from < length s.now → from < result) }
-{
-    past(s, from, b'\n')
-}
-
-// The value of a digit, decimal or hexadecimal, or 16.
-pub fn digit(b: u8) -> u64
-    ensures { result ≤ 16 }
-{
-    if is_digit(b) {
-        return wide(b - b'0');
-    }
-    if b < b'a' {
-        return 16;
-    }
-    if b <= b'f' {
-        return wide(b - b'a') + 10;
-    }
-    16
+    let high = u16::from(digit(high).unwrap_or(16));
+    let low = u16::from(digit(low).unwrap_or(16));
+    ((high * 16 + low) % 256) as u8
 }
 
 // The number with one digit more. What is no decimal digit, or too much, is passed over.
-fn with_digit(n: u64, b: u8) -> u64 {
-    let d = digit(b);
-    if d < 10 {
-        if n <= (18446744073709551615 - d) / 10 {
-            return n * 10 + d;
-        }
+fn with_digit(n: usize, b: u8) -> usize {
+    match b {
+        b'0'..=b'9' => n
+            .checked_mul(10)
+            .and_then(|m| m.checked_add(usize::from(b - b'0')))
+            .unwrap_or(n),
+        _ => n,
     }
-    n
 }
 
 // The decimal number of the word.
-pub fn digits(s: &[u8]) -> u64 {
-    let mut n = 0;
-    let mut i = 0;
-    while i < s.len() {
-        n = with_digit(n, s[i]);
-        i += 1;
-    }
-    n
+pub fn digits(s: &[u8]) -> usize {
+    s.iter().fold(0, |n, b| with_digit(n, *b))
 }
 
 // The signed number of the word.
 fn signed(s: &[u8]) -> i64 {
-    let m = at_most(digits(s), 9223372036854775807) as i64;
-    if 0 < s.len() {
-        if s[0] == b'-' {
-            return 0 - m;
-        }
+    let magnitude = i64::try_from(digits(s)).unwrap_or(i64::MAX);
+    if s.first() == Some(&b'-') {
+        -magnitude
+    } else {
+        magnitude
     }
-    m
 }
 
-// Stores the signed numbers of the words, as many as there is room for, and gives their count.
-pub fn numbers(s: &[u8], out: &mut [i64]) -> usize
-    ensures { result ≤ length out.new }
+// Stores the signed numbers of the words, as many as there is room for, and gives them.
+pub fn numbers<'a>(s: &[u8], out: &'a mut [i64]) -> &'a [i64]
+    ensures { length result.now ≤ length out.old }
 {
-    let mut at = 0;
-    let mut k = 0;
-    while at < s.len() {
-        if k == out.len() {
-            return k;
-        }
-        let e = next_word(s, at);
-        let z = signed(&s[at..e]);
-        out[k] = z;
-        k += 1;
-        at = e;
+    let mut words = s.split_inclusive(|b| *b == b' ');
+    for k in 0..out.len() {
+        let Some(word) = words.next() else {
+            return &out[..k];
+        };
+        out[k] = signed(word);
     }
-    k
+    out
 }
 
-// Stores the bytes that pairs of hexadecimal digits write, as many as there is room for, and gives their count.
-pub fn bytes(s: &[u8], out: &mut [u8]) -> usize
-    ensures { result ≤ length out.new }
+// Stores the bytes that pairs of hexadecimal digits write, as many as there is room for, and gives them.
+pub fn bytes<'a>(s: &[u8], out: &'a mut [u8]) -> &'a [u8]
+    ensures { length result.now ≤ length out.old }
 {
-    let mut k = 0;
-    while k < s.len() / 2 {
-        if k == out.len() {
-            return k;
-        }
-        let high = digit(s[k * 2]);
-        let low = digit(s[k * 2 + 1]);
-        out[k] = ((high * 16 + low) % 256) as u8;
-        k += 1;
+    let (pairs, _) = s.as_chunks::<2>();
+    let count = pairs.len().min(out.len());
+    for ([high, low], b) in pairs.iter().zip(out.iter_mut()) {
+        *b = hex_byte(*high, *low);
     }
-    k
+    &out[..count]
 }

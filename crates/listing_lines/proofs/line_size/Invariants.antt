@@ -1,5 +1,5 @@
--- `line_size` counts a line number by number. Assumes nothing.
-use lib.ListN.{drop}
+-- `line_size` counts a line number by number.
+use Rattle.std.proofs.Common.{drop}
 use Rattle.listing_lines.specs.Lines.{line_text}
 use Rattle.listing_lines.proofs.Pieces.{Counting}
 use Rattle.listing_lines.proofs.line_size.Given as goal

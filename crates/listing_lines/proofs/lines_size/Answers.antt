@@ -28,9 +28,6 @@ token_numbers-requires c =
     let at = goal.at.token_numbers-requires c in
     token_fits c.loop-t.invariant (token_is at.After-next_token-t) (λ k. (c.type_inv.text k).fits)
 
-pub line_size-size-requires : goal.line_size-size-requires
-line_size-size-requires c = rw c.token_numbers.ensures (omega arith)
-
 pub overflow_add-size : goal.overflow_add-size
 overflow_add-size c =
     let at = goal.at.overflow_add-size c in

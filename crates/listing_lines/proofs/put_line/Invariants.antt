@@ -1,5 +1,5 @@
--- `put_line` writes a line number by number. Assumes nothing.
-use lib.ListN.{drop}
+-- `put_line` writes a line number by number.
+use Rattle.std.proofs.Common.{drop}
 use Rattle.base.proofs.Storings.{Storing}
 use Rattle.listing_lines.specs.Lines.{line_text}
 use Rattle.listing_lines.proofs.put_line.Given as goal

@@ -23,20 +23,20 @@ word = 114 ∷ 101 ∷ 102 ∷ 117 ∷ 115 ∷ 101 ∷ 100 ∷ 32 ∷ []
 pub overflow_add-size : goal.overflow_add-size
 overflow_add-size c =
     let size_is : c.number_size-size.result ≡ length (number_text (pos c.args.number)) =
-    rw (signed c.args.number (omega arith)) at c.number_size-size.ensures in
+    rw (signed c.args.number (omega arith)) at c.number_size-size.ensures.size in
     record { fits = omega (arith, size_is, number_most (pos c.args.number)) }
 
 pub returns-then-out-size : goal.returns-then-out-size
 returns-then-out-size c =
     let size_is : c.number_size-size.result ≡ length (number_text (pos c.args.number)) =
-    rw (signed c.args.number (omega arith)) at c.number_size-size.ensures in
+    rw (signed c.args.number (omega arith)) at c.number_size-size.ensures.size in
     let a = c.args in
     short_fills (refused_line a.number) a.out.now (omega (arith, c.if-out-size.true, size_is, refused_length a.number))
 
 pub write_number-requires : goal.write_number-requires
 write_number-requires c =
     let size_is : c.number_size-size.result ≡ length (number_text (pos c.args.number)) =
-    rw (signed c.args.number (omega arith)) at c.number_size-size.ensures in
+    rw (signed c.args.number (omega arith)) at c.number_size-size.ensures.size in
     let a = c.args in
     rw (signed a.number (omega arith))
     (omega (arith, c.if-out-size.false, size_is, ap length c.copy.ensures, length-sets a.out.now 0 word))
@@ -47,18 +47,18 @@ shape_of-out c =
     let written : let a = c.args in c.write_number.new.out ≡ sets a.out.now 0 (refused_line a.number) =
     let a = c.args in let e = rw (signed a.number (omega arith)) at c.write_number.ensures in
     (stored_then {l = a.out.now} {i = 0} {vs = word} {ws = number_text (pos a.number) ++ (0x0A ∷ [])} (record { is = c.copy.ensures }) refl
-    (record { is = e.1 })).is in
+    (record { is = e.written })).is in
     ap length written ∙ simp length-sets
 
 pub returns : goal.returns
 unfolding line_text
 returns c =
     let size_is : c.number_size-size.result ≡ length (number_text (pos c.args.number)) =
-    rw (signed c.args.number (omega arith)) at c.number_size-size.ensures in
+    rw (signed c.args.number (omega arith)) at c.number_size-size.ensures.size in
     let a = c.args in
     let written : c.write_number.new.out ≡ sets a.out.now 0 (refused_line a.number) =
     let e = rw (signed a.number (omega arith)) at c.write_number.ensures in
     (stored_then {l = a.out.now} {i = 0} {vs = word} {ws = number_text (pos a.number) ++ (0x0A ∷ [])} (record { is = c.copy.ensures }) refl
-    (record { is = e.1 })).is in
+    (record { is = e.written })).is in
     let n = refused_length a.number in
     whole_fills (refused_line a.number) a.out.now (omega arith) (omega (arith, c.if-out-size.false)) written

@@ -1,0 +1,49 @@
+// Standard input and standard output.
+ghost use Rattle.std.specs.Prelude.{◌≤◌, length};
+
+use itoa::{Buffer, Integer};
+
+// The descriptors of the two.
+const STDIN_FILENO: i32 = 0;
+
+const STDOUT_FILENO: i32 = 1;
+
+// Reads until the buffer is full or the input ends, and gives what was read.
+pub fn read(buffer: &mut [u8]) -> &[u8]
+    ensures { length result.now ≤ length buffer.old }
+{
+    let n = io::read_full(STDIN_FILENO, buffer);
+    &buffer[..n]
+}
+
+pub fn print(s: &[u8]) {
+    io::write_all(STDOUT_FILENO, s);
+}
+
+// Prints a number in decimal.
+pub fn print_number<I: Integer>(n: I) {
+    let mut buffer = Buffer::new();
+    print(buffer.format(n).as_bytes());
+}
+
+// Prints a byte as two hexadecimal digits.
+pub fn print_hex(b: u8) {
+    io::print_hex(STDOUT_FILENO, u64::from(b), 2);
+}
+
+// Prints a line: a word, and numbers with a blank before each.
+pub fn print_row<I: Integer>(word: &[u8], row: &[I]) {
+    print(word);
+    for n in row {
+        print(b" ");
+        print_number(*n);
+    }
+    print(b"\n");
+}
+
+// Prints the number and the value of an answer.
+pub fn print_answer(number: u8, value: usize) {
+    print_number(number);
+    print(b" ");
+    print_number(value);
+}

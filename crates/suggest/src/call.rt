@@ -5,7 +5,7 @@ ghost use Rattle.suggest.specs.Calls.{refusal_number, good_run, SuggestsDuration
 use crate::candidates::{BYTES, LONGEST, ShortRun, count_all, fill_all};
 use base::answer::Numbered;
 use suggestion_list::ENTRY_WIDTH;
-use utf8::check::{Verdict, check};
+use utf8::check::check;
 
 // Why the call is refused.
 #[derive(Clone, Copy, PartialEq, Eq, Debug)]
@@ -35,10 +35,7 @@ fn good_run(run: &[u8]) -> bool
     if (run.len() == 0) | (run.len() > LONGEST) {
         return false;
     }
-    match check(run) {
-        Verdict::WellFormed => true,
-        Verdict::IllFormed(_) => false,
-    }
+    check(run).is_ok()
 }
 
 // Lists the suggestions for a run, in order. It counts them first, but where the list suffices for any run of the length.

@@ -15,7 +15,8 @@ use Rattle.base.specs.Helpers.{nonzero}
 use Rattle.base.specs.Bytes.{within}
 use Rattle.base.proofs.Tests.{by_cases, pick_case, pick_le, within_one}
 use Rattle.utf8.specs.Grammar.{char_size}
-use Rattle.utf8.specs.Character.{code_bits, code_of, decode_of, is_white, white_size}
+use Rattle.utf8.specs.Character.{code_bits, code_of, is_white, white_size}
+use Rattle.utf8.specs.Helpers.{decode_of}
 use Rattle.utf8.specs.declared.character.Character.{Character}
 use Rattle.utf8.proofs.Chars.{size_le, size_single}
 use Rattle.utf8.proofs.Nonzero.{none_zero, some_same, some_more, zero_none, more_some}

@@ -13,7 +13,8 @@ use Rattle.std.specs.Prelude.{Some}
 use Rattle.base.specs.Bytes.{within}
 use Rattle.base.proofs.Tests.{and_left, and_right, by_cases, pick_case}
 use Rattle.utf8.specs.Grammar.{Range, range, tail, utf8_char, Matches, done, next, Char, char, char_size}
-use Rattle.utf8.specs.Character.{code_bits, code_of, decode_of, is_scalar, octets_of, encoded, encode_of}
+use Rattle.utf8.specs.Character.{code_bits, code_of, is_scalar, octets_of, encoded, encode_of}
+use Rattle.utf8.specs.Helpers.{decode_of}
 use Rattle.utf8.proofs.Chars.{size_of_char}
 
 -- a code point of UTF-8: at most 0x10FFFF and no surrogate

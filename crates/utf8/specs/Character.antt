@@ -1,13 +1,11 @@
 -- Characters and their code points: RFC 3629, section 3; Unicode's property White_Space.
-use Rattle.std.specs.Prelude.{Bool, false, not, ◌&&◌, ◌||◌, List, [], ◌∷◌, ℕ, ◌+◌, ◌*◌, ◌/◌, ◌%◌, eqb, ltb, leb, length, take, Option, Some, None}
+use Rattle.std.specs.Prelude.{Bool, false, not, ◌&&◌, ◌||◌, List, [], ◌∷◌, ℕ, ◌+◌, ◌*◌, ◌/◌, ◌%◌, eqb, ltb, leb, length, take}
 use Rattle.base.specs.Choice.{pick}
 use Rattle.base.specs.Bytes.{byte, within}
 use Rattle.utf8.specs.Grammar.{Range, range, char_size}
-use Rattle.utf8.specs.declared.character.Character.{Character}
 use Rattle.utf8.specs.declared.character.Encoded.{Encoded}
 
--- Types of the code (src/character.rt). `Character`: a code point, `code`, and how many octets it has, `size`. `Encoded`: at most four octets, the
--- first `len` of the four `bytes`.
+-- Types of the code (src/character.rt). `Encoded`: at most four octets, the first `len` of the four `bytes`.
 
 -- the free bits of a character of 1 to 4 octets, "x" in the table of section 3, and 0 for any other size
 unfoldable pub code_bits : ℕ → List ℕ → ℕ
@@ -20,10 +18,6 @@ code_bits n s =
 -- the code point of the character at the front of the list, or 0 where there is none
 unfoldable pub code_of : List ℕ → ℕ
 code_of s = code_bits (char_size s) s
-
--- the character at the front of the list: its code point and its length
-unfoldable pub decode_of : List ℕ → Option Character
-decode_of s = pick (eqb (char_size s) 0) None (Some (record { code = code_of s; size = char_size s }))
 
 -- a code point that UTF-8 encodes: at most 0x10FFFF and no surrogate
 unfoldable pub is_scalar : ℕ → Bool

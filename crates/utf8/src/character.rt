@@ -5,7 +5,8 @@ ghost use Rattle.base.specs.Bytes.{within};
 ghost use Rattle.utf8.specs.Grammar.{char_size};
 ghost use Rattle.utf8.specs.Check.{is_tail};
 ghost use Rattle.utf8.specs.State.{size_after};
-ghost use Rattle.utf8.specs.Character.{code_bits, decode_of, octets_of, encoded, encode_of, is_white, white_size};
+ghost use Rattle.utf8.specs.Character.{code_bits, octets_of, encoded, encode_of, is_white, white_size};
+ghost use Rattle.utf8.specs.Helpers.{decode_of};
 
 use crate::state::State;
 

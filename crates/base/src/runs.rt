@@ -63,7 +63,11 @@ fn window_count<R: Run>(run: R, s: &[u8]) -> usize
     let mut m = WINDOW as u8;
     for j in 0..WINDOW as u8 {
         let i = j as usize;
-        let k = if run.has(s[i], s[i + 1]) { WINDOW as u8 } else { j };
+        let k = if run.has(s[i], s[i + 1]) {
+            WINDOW as u8
+        } else {
+            j
+        };
         m = m.min(k);
     }
     m as usize

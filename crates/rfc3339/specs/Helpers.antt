@@ -1,5 +1,5 @@
--- Helper definitions, for proofs and inner contracts alone: what each rule finds, and the bounds of numbers and places.
-use Rattle.std.specs.Prelude.{Bool, ◌&&◌, List, ℕ, ◌+◌, ◌*◌, ◌≤◌, ◌<◌, ℤ, pos, ◌-ℤ◌, length, Option, Some, None}
+-- Helper definitions, for proofs and inner contracts alone: what each rule finds, and the bounds of numbers.
+use Rattle.std.specs.Prelude.{Bool, ◌&&◌, List, ℕ, ◌+◌, ◌*◌, ◌≤◌, ◌<◌, ℤ, pos, ◌-ℤ◌, Option, Some, None}
 use Prim.Native.Char.{code}
 use Rattle.base.specs.Choice.{pick}
 use Rattle.base.specs.Bytes.{within}
@@ -10,10 +10,6 @@ use Rattle.rfc3339.specs.Grammar.{minute_of, second_of, is_partial_time, secfrac
 use Rattle.rfc3339.specs.Instant.{hour_seconds, minute_seconds, epoch_seconds}
 
 -- ---- bounds
-
--- a place in a run or a little after it
-abbrev pub NearEnd : ℕ → List ℕ → Type 0
-NearEnd i s = i ≤ length s + 32
 
 -- a year of four digits, a month and a day
 pub record CivilDate (y m d : ℕ) : Type 0 where
@@ -33,10 +29,6 @@ pub record SecondsFit (local offset : ℕ) : Type 0 where
 -- the number where the rule holds
 abbrev pub found_if : Bool → ℕ → Option ℕ
 found_if ok n = pick ok (Some n) None
-
--- that the sign k stands at i
-abbrev pub sign_at : ℕ → List ℕ → ℕ → Option Unit
-sign_at k s i = pick (is_at k s i) (Some tt) None
 
 -- the number of two digits, from lo to hi
 unfoldable pub pair_by : ℕ → ℕ → ℕ → ℕ → Option ℕ

@@ -46,7 +46,7 @@ secfrac_digits s = take (secfrac_end s - (secfrac_place s + 1)) (drop (secfrac_p
 unfoldable pub secfrac_nanos : List ℕ → ℕ
 secfrac_nanos digits = value_of digits * 10 ^ 9 / 10 ^ length digits
 
--- the instant of a run
+-- the instant that a run names
 abbrev pub instant_of : List ℕ → Instant
 instant_of s = record { seconds = seconds_of s; nanos = secfrac_nanos (secfrac_digits s) }
 

@@ -174,7 +174,8 @@ pub fn put_string(s: &[u8], mode: Mode, len: usize, size: usize, out: &mut [u8],
                 used,
                 reason: _,
             } => {
-                base::copy(out, p, &encoded.bytes, 0, encoded.len);
+                let bytes = encoded.bytes;
+                base::store(out, p, &bytes[..encoded.len]);
                 p += encoded.len;
                 i = e + used;
             }

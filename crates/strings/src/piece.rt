@@ -85,7 +85,9 @@ fn oct_escape(t: &[u8], first: u8) -> Piece
     bad(reason::BAD_OCTAL, first, 2)
 }
 
-// `\u` or `\U` and n digits. Good digits before a bad one are used up, but none where too few bytes are left.
+// `\u` or `\U` and n digits. Good digits before a bad one are used up, but none where too few bytes are left. Not inlined, strings of such escapes
+// take a fifth more instructions.
+#[inline]
 fn code_escape(t: &[u8], n: usize, reason: usize, letter: u8) -> Piece
     requires { (n ≤ 8) × (1 < length t.now) }
     ensures { result ≡ code_piece n reason letter (drop 2 t.now) }

@@ -2,7 +2,7 @@
 // crates cite stand in specs/ and proofs/.
 #![tactic(auto)]
 
-ghost use Rattle.std.specs.Prelude.{◌≡◌, ◌+◌, ◌≤◌, ◌<◌, length};
+ghost use Rattle.std.specs.Prelude.{◌≡◌, ◌+◌, ◌≤◌, length};
 ghost use Rattle.std.proofs.lemmas.List.Edits.{sets};
 ghost use Rattle.base.specs.Bytes.{byte};
 
@@ -23,13 +23,6 @@ pub fn peek(s: &[u8], k: usize) -> u8
         return s[k];
     }
     0
-}
-
-// A byte as a 32-bit number.
-pub fn wide(b: u8) -> u32
-    ensures { (result ≡ b) × (result < 256) }
-{
-    b as u32
 }
 
 // Stores the elements of `xs` from index `at` on, one by one.

@@ -14,8 +14,7 @@ use Rattle.token.specs.Kind.{kind_number}
 use Rattle.token.specs.Layout.{record_width, report_width}
 use Rattle.token.proofs.KindNumbers.{number_le}
 use Rattle.utf8.specs.Check.{check_of}
-use Rattle.utf8.specs.declared.check.Verdict.{Verdict}
-use Rattle.utf8.specs.declared.check.Verdict.TheVariants.{WellFormed, IllFormed}
+use Rattle.utf8.specs.declared.check.Utf8Error.{Utf8Error}
 use Rattle.lexer.specs.declared.reading.Reading.TheVariants.{Strict}
 use Rattle.lexer.specs.Token.{string_size}
 use Rattle.lexer.specs.declared.next.Token.{Token}
@@ -84,28 +83,28 @@ module _ (text : List ℕ) (nt ns nr no : ℕ) (h : Suffice (length text) nt ns 
   printed_is =
       rw (le-ltb max_message_size (length text) (omega (arith, h.text)), room_answer room) (go (check_of text) _)
     where
-      go : (v : Verdict) (c : Counts) → listing_of text (after_judge (after_check v (λ n. Err (NotUtf8 n)) (Ok tt)) Err (Ok c))
+      go : (v : Result (Unit {0}) Utf8Error) (c : Counts) → listing_of text (after_judge (after_check v (λ n. Err (NotUtf8 n)) (Ok tt)) Err (Ok c))
           ≡ after_check v (λ n. refused_line (refusal_number (NotUtf8 n))) (token_lines text)
-      go WellFormed c = refl
-      go (IllFormed n) c = refl
+      go (Ok u) c = refl
+      go (Err e) c = refl
 
   -- the out buffer is not shorter than the lines
   pub lines_fit_out : lines_size text ≤ no
   unfolding lines_size judge_of
   lines_fit_out = rw (le-ltb max_message_size (length text) (omega (arith, h.text))) (go (check_of text))
     where
-      go : (v : Verdict) → after_judge (after_check v (λ n. Err (NotUtf8 n)) (Ok tt)) (λ r. 0) (length (token_lines text)) ≤ no
-      go WellFormed = omega (arith, lines_most text h.text, h.out)
-      go (IllFormed n) = omega arith
+      go : (v : Result (Unit {0}) Utf8Error) → after_judge (after_check v (λ n. Err (NotUtf8 n)) (Ok tt)) (λ r. 0) (length (token_lines text)) ≤ no
+      go (Ok u) = omega (arith, lines_most text h.text, h.out)
+      go (Err e) = omega arith
 
   -- and it holds what is printed
   pub printed_fits : length (printed text) ≤ no
   unfolding printed
   printed_fits = go (check_of text)
     where
-      go : (v : Verdict) → length (after_check v (λ n. refused_line (refusal_number (NotUtf8 n))) (token_lines text)) ≤ no
-      go WellFormed = omega (arith, lines_most text h.text, h.out)
-      go (IllFormed n) = omega (arith, refused_length 2, number_most (pos 2), h.out)
+      go : (v : Result (Unit {0}) Utf8Error) → length (after_check v (λ n. refused_line (refusal_number (NotUtf8 n))) (token_lines text)) ≤ no
+      go (Ok u) = omega (arith, lines_most text h.text, h.out)
+      go (Err e) = omega (arith, refused_length 2, number_most (pos 2), h.out)
 
 -- where the buffers suffice, the listing is what is printed, and no buffer is short
 module _ {text : List ℕ} {T : List ℤ} {S : List ℕ} {R : List ℤ} {O : List ℕ} {r : Result ℕ OutShort} {T' : List ℤ} {S' : List ℕ} {R' : List ℤ}

@@ -92,6 +92,7 @@ fn lines_size(text: &[u8]) -> usize
 }
 
 // The same of any text: 0 where it is too long or not UTF-8.
+#[tactic(auto, unfolding(crate::specs::Listing::lines_size))]
 fn listing_size(text: &[u8]) -> usize
     ensures { result ≡ lines_size text.now }
 {

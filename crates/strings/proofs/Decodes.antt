@@ -8,7 +8,7 @@ use native.Mathlib.Nat.{add-zero, add-suc, suc-add}
 use native.Mathlib.Omega.{arith}
 use borrow.Author.Tests.{not-true, eqb-true}
 use lib.Dec.{eqb, lit≤, eqb-suc-zero}
-use lib.ListN.{length, drop, take, length-take, length-drop}
+use lib.ListN.{length, drop, take, length-drop}
 use lib.Seq.{drop-drop, length-take-le}
 use Rattle.base.specs.Choice.{pick}
 use Rattle.base.specs.Bytes.{byte}
@@ -154,9 +154,6 @@ module _ (m : Mode) (s : List ℕ) (i : ℕ) {q : Step} (is : q ≡ step_of m i 
 
     pub step_four : enc.len ≤ 4
     step_four = went.taken.four
-
-    pub step_whole : 0 + enc.len ≤ length enc.bytes
-    step_whole = omega (arith, went.count, length-take enc.len enc.bytes)
 
     module _ (k : i ≤ length s) where
       pub step_gives : Gives m s i (octets_of enc) (step_notes reason (byte enc.bytes 1) i) enc.len (i + used)

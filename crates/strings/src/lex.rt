@@ -174,8 +174,7 @@ pub fn put_string(s: &[u8], mode: Mode, len: usize, size: usize, out: &mut [u8],
                 used,
                 reason: _,
             } => {
-                let bytes = encoded.bytes;
-                base::store(out, p, &bytes[..encoded.len]);
+                encoded.put(out, p);
                 p += encoded.len;
                 i = e + used;
             }

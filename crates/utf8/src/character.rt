@@ -1,5 +1,6 @@
 // Characters: their length, their code point, their bytes, and White_Space.
 ghost use Rattle.std.specs.Prelude.{◌≡◌, ◌+◌, ◌%◌, ◌≤◌, length};
+ghost use Rattle.std.proofs.lemmas.List.Edits.{sets};
 ghost use Rattle.base.specs.Helpers.{nonzero};
 ghost use Rattle.base.specs.Bytes.{within};
 ghost use Rattle.utf8.specs.Grammar.{char_size};
@@ -97,6 +98,18 @@ impl Encoded {
         ensures { result.now ≡ octets_of self.now }
     {
         &self.bytes[..self.len]
+    }
+
+    // Stores the bytes in `out` from `p` on. By a test for each of the four: of a loop over `len` the compiler makes a call of the C library.
+    pub fn put(self, out: &mut [u8], p: usize)
+        requires { (self.len ≤ 4) × (p + self.len ≤ length out.old) }
+        ensures { out.new ≡ sets out.old p (octets_of self) }
+    {
+        for k in 0..4 {
+            if k < self.len {
+                out[p + k] = self.bytes[k];
+            }
+        }
     }
 }
 

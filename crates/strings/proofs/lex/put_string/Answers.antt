@@ -1,15 +1,14 @@
 -- `put_string` stores what is left after what is stored already: all of it where it is text, else a run of bytes that stand for themselves,
 -- then the closing quote, escapes of one letter, or a step. What is stored so far is named stage by stage. Assumes nothing.
-use mathlib.Core.Path.{◌≡◌, refl, sym}
+use mathlib.Core.Path.{◌≡◌, refl}
 use mathlib.Core.List.{List}
 use Prim.Native.Nat.{ℕ, ◌+◌, ◌-◌, ◌*◌}
 use native.Mathlib.Omega.{arith}
 use lib.ListN.{drop, length-take}
-use lib.Seq.{length-take-le}
-use Rattle.strings.proofs.Decodes.{run_ge, run_in, run_gives, simple_gives, step_whole, step_gives, step_less}
+use Rattle.strings.proofs.Decodes.{run_ge, run_in, run_gives, simple_gives, step_four, step_gives, step_less}
 use Rattle.strings.proofs.Turns.{quote_stop, Writing, writing_first, writing_room, writing_more, writing_none, writing_stop}
 use Rattle.strings.proofs.Closings.{left_in, left_room, left_source, text_left, last_same, last_copied}
-use Rattle.strings.proofs.lex.put_string.Goals.{After-copy-in-loop-i, After-store, After-put_simple-escapes, Else-escapes-ne0}
+use Rattle.strings.proofs.lex.put_string.Goals.{After-copy-in-loop-i, After-put, After-put_simple-escapes, Else-escapes-ne0}
 use Rattle.strings.proofs.lex.put_string.Goals as goal
 
 -- a part of the text from i on
@@ -53,8 +52,8 @@ stepping c =
     writing_none _ _ _ escaped c.if-escapes-ne0.false
 
 -- the bytes of a step are stored
-stepped : (c : After-store) → let run_end : ℕ = c.ordinary_end-e.result in let next : ℕ = c.loop-i.p + (run_end - c.loop-i.i) in let Written : List ℕ →
-    ℕ → ℕ → Type 0 = λ out j p. let a = c.args in Writing a.mode a.s.now a.len a.out.now a.place (a.place + a.size) out j p in Written c.store.new.buf
+stepped : (c : After-put) → let run_end : ℕ = c.ordinary_end-e.result in let next : ℕ = c.loop-i.p + (run_end - c.loop-i.i) in let Written : List ℕ →
+    ℕ → ℕ → Type 0 = λ out j p. let a = c.args in Writing a.mode a.s.now a.len a.out.now a.place (a.place + a.size) out j p in Written c.put.new.out
     (run_end + c.in-Go.used) (next + c.in-Go.encoded.len)
 stepped c =
     let run_end : ℕ = c.ordinary_end-e.result in
@@ -65,7 +64,7 @@ stepped c =
     let escaped : let n = c.put_simple-escapes.result in Written c.put_simple-escapes.new.out (run_end + 2 * n) (next + n) = let w = copied in
     writing_more w (simple_gives _ _ _ w.inside c.put_simple-escapes.ensures.0 _) _ c.put_simple-escapes.ensures.1 in
     let stepping : Written c.put_simple-escapes.new.out run_end next = writing_none _ _ _ escaped c.if-escapes-ne0.false in
-    let v = stepping in writing_more v (step_gives _ _ _ c.step_at-st.ensures c.in-Go.is v.inside) _ c.store.ensures
+    let v = stepping in writing_more v (step_gives _ _ _ c.step_at-st.ensures c.in-Go.is v.inside) _ c.put.ensures
 
 pub loop-i-init : goal.loop-i-init
 loop-i-init c = search writing_first
@@ -164,29 +163,21 @@ step_at-st-requires c =
     let at = goal.at.step_at-st-requires c in
     (stepping at.Else-escapes-ne0).inside
 
-pub slice_bounds-bytes-end : goal.slice_bounds-bytes-end
-slice_bounds-bytes-end c = omega (arith, step_whole _ _ _ c.step_at-st.ensures c.in-Go.is)
-
-pub slice_bounds-store-end : goal.slice_bounds-store-end
-slice_bounds-store-end c =
-    sym (length-take-le c.in-Go.encoded.len c.in-Go.encoded.bytes (omega (arith, step_whole _ _ _ c.step_at-st.ensures c.in-Go.is)))
-
-pub store-requires : goal.store-requires
-store-requires c =
-    let at = goal.at.store-requires c in
+pub put-requires : goal.put-requires
+put-requires c =
+    let at = goal.at.put-requires c in
     let v = stepping at.Else-escapes-ne0 in
-    let room = writing_room v (step_gives _ _ _ c.step_at-st.ensures c.in-Go.is v.inside) in
-    omega (arith, length-take c.in-Go.encoded.len c.in-Go.encoded.bytes, room)
+    (step_four _ _ _ c.step_at-st.ensures c.in-Go.is, writing_room v (step_gives _ _ _ c.step_at-st.ensures c.in-Go.is v.inside))
 
 pub overflow_add-p-in-Go : goal.overflow_add-p-in-Go
 overflow_add-p-in-Go c =
     let at = goal.at.overflow_add-p-in-Go c in
-    omega (arith, (stepped at.After-store).store.room, c.well_formed)
+    omega (arith, (stepped at.After-put).store.room, c.well_formed)
 
 pub overflow_add-i-in-Go : goal.overflow_add-i-in-Go
 overflow_add-i-in-Go c =
     let at = goal.at.overflow_add-i-in-Go c in
-    omega (arith, (stepped at.After-store).inside, c.well_formed)
+    omega (arith, (stepped at.After-put).inside, c.well_formed)
 
 pub loop-i-smaller : goal.loop-i-smaller
 loop-i-smaller c =
@@ -197,7 +188,7 @@ loop-i-smaller c =
 pub loop-i-preserved : goal.loop-i-preserved
 loop-i-preserved c =
     let at = goal.at.loop-i-preserved c in
-    stepped at.After-store
+    stepped at.After-put
 
 pub shape_of-out-in-Stop : goal.shape_of-out-in-Stop
 shape_of-out-in-Stop c =

@@ -1,5 +1,5 @@
 -- The next token from an offset of the text, with its places: document 01, "Places and records".
-use Rattle.std.specs.Prelude.{Bool, List, ℕ, ◌+◌, eqb, drop}
+use Rattle.std.specs.Prelude.{List, ℕ, ◌+◌, eqb, drop}
 use Rattle.base.specs.Choice.{pick}
 use Rattle.base.specs.Runs.{reach}
 use Rattle.token.specs.Kind.{is_string}

@@ -8,7 +8,7 @@ use native.Mathlib.Omega.{arith}
 use borrow.Author.Tests.{eq-eqb, ne_eqb}
 use lib.Dec.{eqb, eqb-suc-zero}
 use lib.ListN.{length, take, drop}
-use lib.Seq.{sets, length-take-le, take-length}
+use lib.Seq.{sets, length-take-le}
 use Rattle.base.specs.Choice.{pick}
 use Rattle.base.specs.Bytes.{byte}
 use Rattle.base.proofs.Reaches.{rest_is}

@@ -4,12 +4,11 @@ use mathlib.Core.Path.{◌≡◌, refl, ap, sym, ◌∙◌}
 use mathlib.Core.Bool.{Bool, true, false, ◌&&◌}
 use mathlib.Core.List.{List, [], ◌∷◌, ◌++◌}
 use Prim.Native.Nat.{ℕ, zero, suc, ◌+◌, ◌-◌, ◌≤◌, ◌<◌, ◌^◌}
-use native.Mathlib.Numerals.{add-one}
 use native.Mathlib.Omega.{arith}
 use borrow.Author.Tests.{eq-eqb, ne_eqb}
 use lib.Dec.{eqb, eqb-suc-zero}
 use lib.ListN.{length, take, drop, length-drop, drop_of_length-le}
-use lib.Seq.{drop-cons, drop-drop, take-suc, take-length, length-take-le}
+use lib.Seq.{drop-drop, take-suc, take-length, length-take-le}
 use mir.Syntax.{w64}
 use mir.Val.{Fits}
 use Rattle.std.specs.List.{starts_with}
@@ -23,7 +22,6 @@ use Rattle.utf8.proofs.Nonzero.{none_zero, some_same, some_more}
 use Rattle.utf8.proofs.Codes.{white_le}
 use Rattle.triple_strings.specs.Dedent.{next, blank, prefix}
 use Rattle.triple_strings.specs.UndentBytes.{last_start}
-use Rattle.triple_strings.proofs.ByLines.{prefix_long}
 
 -- ---- `is_blank`
 

@@ -8,7 +8,7 @@ use native.Mathlib.Omega.{arith}
 use borrow.Author.Tests.{eq-eqb, ne_eqb}
 use lib.Dec.{eqb}
 use lib.ListN.{length, take, drop, set, length-drop, drop_of_length-le}
-use lib.Seq.{drop-cons, drop-drop, sets, take-length}
+use lib.Seq.{drop-cons, drop-drop, sets}
 use mir.Syntax.{w64}
 use mir.Val.{Fits}
 use Rattle.base.specs.Choice.{pick}

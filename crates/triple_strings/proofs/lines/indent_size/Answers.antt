@@ -1,5 +1,4 @@
 -- `indent_size` is `indent_size`: all of the indent, or none. Assumes nothing.
-use mathlib.Core.Path.{sym, ◌∙◌}
 use Rattle.triple_strings.specs.UndentBytes.{indent_size}
 use Rattle.triple_strings.proofs.LineScans.{starts_prefix}
 use Rattle.triple_strings.proofs.lines.indent_size.Goals as goal

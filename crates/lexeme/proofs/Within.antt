@@ -6,8 +6,8 @@ use lib.ListN.{length}
 use borrow.Author.Rules.{rules}
 use lib.IntN.{ℤ}
 use Rattle.base.specs.Bytes.{AreBytes}
-use Rattle.token.specs.Helpers.{last_reason}
 use Rattle.token.specs.declared.kind.TokenKind.{TokenKind}
+use Rattle.token.specs.declared.reason.Reason.{Reason}
 use Rattle.lexeme.specs.Lexeme.{extent, illegal_reported, precise, duration}
 use Rattle.lexeme.specs.declared.Lexeme.{Lexeme}
 
@@ -17,7 +17,6 @@ pub record Within (s : List ℕ) (r : Lexeme) : Type 0 where
   pub value_in : r.value + r.size ≤ r.len
   pub precision_in : r.precision + r.digits ≤ r.len
   pub reports_in : r.reports ≤ r.len
-  pub reason_in : r.reason ≤ last_reason
   pub detail_in : AreBytes s → r.detail < 0x200000
 
 -- the makers' answers
@@ -25,9 +24,9 @@ pub extent_within : (s : List ℕ) (k : TokenKind) (n : ℕ) → 0 < n → n ≤
     → Within s (extent k n v size reports)
 extent_within s k n h e v size reports i j = search rules
 
-pub illegal_within : (s : List ℕ) (r d n reports : ℕ) → 0 < n → n ≤ length s → reports ≤ n → r ≤ last_reason → (AreBytes s → d < 0x200000)
+pub illegal_within : (s : List ℕ) (r : Reason) (d n reports : ℕ) → 0 < n → n ≤ length s → reports ≤ n → (AreBytes s → d < 0x200000)
     → Within s (illegal_reported r d n reports)
-illegal_within s r d n reports h e k i j = search rules
+illegal_within s r d n reports h e k i = search rules
 
 pub precise_within : (s : List ℕ) (k : TokenKind) (e n : ℕ) → e < n → n ≤ length s → Within s (precise k e n)
 precise_within s k e n h i = search rules

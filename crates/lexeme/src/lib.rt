@@ -11,7 +11,7 @@ ghost use Rattle.lexeme.specs.Reports.{report_at};
 use token::kind::TokenKind;
 use token::layout::Report;
 use token::place::Place;
-use token::reason;
+use token::reason::Reason;
 
 // Strict reading refuses what is open or badly escaped; tolerant reading recovers and reports.
 #[derive(Clone, Copy, PartialEq, Eq, Debug)]
@@ -26,7 +26,7 @@ pub enum Mode {
 #[derive(Clone, Copy, PartialEq, Eq, Debug)]
 pub struct Lexeme {
     pub kind: TokenKind,
-    pub reason: usize,
+    pub reason: Option<Reason>,
     pub len: usize,
     pub detail: usize,
     pub value: usize,
@@ -44,7 +44,7 @@ impl Lexeme {
     {
         Self {
             kind,
-            reason: reason::NONE,
+            reason: None,
             len,
             detail: 0,
             value: len,
@@ -76,11 +76,11 @@ impl Lexeme {
     }
 
     // An Illegal token with so many reports.
-    pub fn illegal_reported(reason: usize, detail: usize, len: usize, reports: usize) -> Self
+    pub fn illegal_reported(reason: Reason, detail: usize, len: usize, reports: usize) -> Self
         ensures { result ≡ illegal_reported reason detail len reports }
     {
         Self {
-            reason,
+            reason: Some(reason),
             detail,
             reports,
             ..Self::bare(TokenKind::Illegal, len)
@@ -88,7 +88,7 @@ impl Lexeme {
     }
 
     // An Illegal token.
-    pub fn illegal(reason: usize, detail: usize, len: usize) -> Self
+    pub fn illegal(reason: Reason, detail: usize, len: usize) -> Self
         ensures { result ≡ illegal reason detail len }
     {
         Self::illegal_reported(reason, detail, len, 0)
@@ -121,12 +121,12 @@ impl Lexeme {
 }
 
 // Stores a report that stands at a place.
-pub fn put_report(p: Place, reason: usize, detail: usize, out: &mut [i64], at: usize)
+pub fn put_report(p: Place, reason: Reason, detail: usize, out: &mut [i64], at: usize)
     requires { (at + report_width ≤ length out.old) × ReportFits (report_at p reason detail) }
     ensures { out.new ≡ sets out.old at (report_numbers (report_at p reason detail)) }
 {
     let report = Report {
-        reason,
+        reason: reason.number(),
         detail,
         offset: p.offset,
         line: p.line,

@@ -4,6 +4,7 @@ use Rattle.base.specs.Choice.{pick}
 use Rattle.base.specs.Buffers.{after}
 use Rattle.token.specs.Kind.{kind_number, is_string}
 use Rattle.token.specs.Layout.{record_numbers, report_numbers}
+use Rattle.token.specs.Reason.{number_of}
 use Rattle.token.specs.declared.layout.Record.{Record}
 use Rattle.token.specs.declared.layout.Report.{Report}
 use Rattle.lexeme.specs.Reports.{report_of}
@@ -24,7 +25,7 @@ abbrev pub record_of : ℕ → Token → Record
 record_of p t =
     record {
       kind = kind_number t.kind;
-      reason = t.reason;
+      reason = number_of t.reason;
       detail = t.detail;
       start = t.start.offset;
       end = t.end.offset;

@@ -3,8 +3,8 @@ use Rattle.std.specs.Prelude.{List, [], ◌∷◌, ℕ, ◌+◌, ◌*◌, ◌/�
 use Prim.Native.Char.{code}
 use Rattle.base.specs.Choice.{pick}
 use Rattle.utf8.specs.Check.{char_end}
-use Rattle.token.specs.Reason as reasons
 use Rattle.token.specs.declared.kind.TokenKind.TheVariants as K
+use Rattle.token.specs.declared.reason.Reason.TheVariants as R
 use Rattle.lexeme.specs.Lexeme.{extent, illegal, Note, note_at_start}
 use Rattle.lexeme.specs.declared.Lexeme.{Lexeme}
 use Rattle.lexeme.specs.declared.Mode.{Mode}
@@ -30,12 +30,12 @@ bytes_value len n reports = extent K.Bytes len (pick (eqb n 0) len 2) n reports
 
 -- "14 open bytes literal", n bytes between its quote and its end; the tolerant reader takes them as the value and reports it
 abbrev pub open_bytes_literal : Mode → ℕ → Lexeme
-open_bytes_literal Strict n = illegal reasons.open_bytes 0 (n + 2)
+open_bytes_literal Strict n = illegal R.OpenBytes 0 (n + 2)
 open_bytes_literal Tolerant n = bytes_value (n + 2) n 1
 
 -- the literal by where it stops: "13 bytes over limit", closed, or open
 abbrev pub bytes_by : Mode → List ℕ → Stop → Lexeme
-bytes_by m s (stop.Over n) = illegal reasons.bytes_over_limit 0 (char_end s (n + 2))
+bytes_by m s (stop.Over n) = illegal R.BytesOverLimit 0 (char_end s (n + 2))
 bytes_by m s (stop.Closed n) = bytes_value (n + 3) n 0
 bytes_by m s (stop.Newline n) = open_bytes_literal m n
 bytes_by m s (stop.Open n) = open_bytes_literal m n
@@ -49,8 +49,8 @@ abbrev pub stop_notes : Mode → Stop → List Note
 stop_notes Strict e = []
 stop_notes Tolerant (stop.Over n) = []
 stop_notes Tolerant (stop.Closed n) = []
-stop_notes Tolerant (stop.Newline n) = note_at_start reasons.bytes_ended_at_newline ∷ []
-stop_notes Tolerant (stop.Open n) = note_at_start reasons.open_bytes ∷ []
+stop_notes Tolerant (stop.Newline n) = note_at_start R.BytesEndedAtNewline ∷ []
+stop_notes Tolerant (stop.Open n) = note_at_start R.OpenBytes ∷ []
 
 -- the reports of the literal at the front of s
 unfoldable pub bytes_notes : Mode → ℕ → List ℕ → List Note

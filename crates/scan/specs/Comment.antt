@@ -3,8 +3,8 @@ use Rattle.std.specs.Prelude.{List, [], ◌∷◌, ℕ, ◌+◌, ◌-◌, ltb, l
 use Rattle.base.specs.Choice.{pick}
 use Rattle.base.specs.Runs.{reach}
 use Rattle.utf8.specs.Check.{char_end}
-use Rattle.token.specs.Reason as reasons
 use Rattle.token.specs.declared.kind.TokenKind.TheVariants as K
+use Rattle.token.specs.declared.reason.Reason.TheVariants as R
 use Rattle.lexeme.specs.Lexeme.{whole, extent, illegal, Note, note_at_start}
 use Rattle.lexeme.specs.declared.Lexeme.{Lexeme}
 use Rattle.lexeme.specs.declared.Mode.{Mode}
@@ -27,7 +27,7 @@ body_end s = reach in_body s 2
 
 -- "2 open block comment"; the tolerant reader takes all that is left and reports it
 unfoldable pub open_comment : Mode → List ℕ → Lexeme
-open_comment Strict s = illegal reasons.open_block_comment 0 (open_end s)
+open_comment Strict s = illegal R.OpenBlockComment 0 (open_end s)
 open_comment Tolerant s = extent K.Comment (length s) 0 (length s) 1
 
 -- `lex_block_comment`: through `*/`, or open
@@ -37,7 +37,7 @@ lex_block_comment m s = pick (ltb (body_end s) (length s)) (whole K.Comment (bod
 -- the report of an open comment, at its start
 abbrev pub open_comment_notes : Mode → List Note
 open_comment_notes Strict = []
-open_comment_notes Tolerant = note_at_start reasons.open_block_comment ∷ []
+open_comment_notes Tolerant = note_at_start R.OpenBlockComment ∷ []
 
 -- the reports of the comment at the front of s
 unfoldable pub block_notes : Mode → List ℕ → List Note

@@ -4,9 +4,9 @@ use Rattle.base.specs.Characters.{ascii}
 use Rattle.base.specs.Choice.{pick}
 use Rattle.base.specs.Bytes.{same_bytes}
 use Rattle.base.specs.Runs.{reach}
-use Rattle.token.specs.Reason as reasons
 use Rattle.token.specs.declared.kind.TokenKind.{TokenKind}
 use Rattle.token.specs.declared.kind.TokenKind.TheVariants as K
+use Rattle.token.specs.declared.reason.Reason.TheVariants as R
 use Rattle.lexeme.specs.Lexeme.{whole, extent, illegal}
 use Rattle.lexeme.specs.declared.Lexeme.{Lexeme}
 use Rattle.scan.specs.Run.{in_name}
@@ -52,4 +52,4 @@ directive w n =
 unfoldable pub lex_directive : List ℕ → Lexeme
 lex_directive s =
     let n = reach in_name s 1 in
-    pick (eqb n 1) (illegal reasons.at_without_name 0 1) (directive (take (n - 1) (drop 1 s)) n)
+    pick (eqb n 1) (illegal R.AtWithoutName 0 1) (directive (take (n - 1) (drop 1 s)) n)

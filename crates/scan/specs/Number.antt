@@ -9,9 +9,9 @@ use Rattle.base.specs.Runs.{reach, past}
 use Rattle.go_duration.specs.Parse.{parse_of}
 use Rattle.rfc3339.specs.Instant.{date_of}
 use Rattle.rfc3339.specs.declared.parse.Instant.{Instant}
-use Rattle.token.specs.Reason as reasons
 use Rattle.token.specs.declared.kind.TokenKind.{TokenKind}
 use Rattle.token.specs.declared.kind.TokenKind.TheVariants as K
+use Rattle.token.specs.declared.reason.Reason.TheVariants as R
 use Rattle.lexeme.specs.Lexeme.{whole, illegal, precise, duration}
 use Rattle.lexeme.specs.declared.Lexeme.{Lexeme}
 use Rattle.scan.specs.Run.{in_stamp, unit_piece}
@@ -47,7 +47,7 @@ at_duration_unit a b = is_duration_unit a || (eqb a 0xC2 && eqb b 0xB5)
 -- a duration of n bytes where `go_duration::parse` accepts it, else "18 bad duration"
 abbrev pub duration_by : Option ℤ → ℕ → Lexeme
 duration_by (Some z) n = duration n z
-duration_by None n = illegal reasons.bad_duration 0 n
+duration_by None n = illegal R.BadDuration 0 n
 
 -- `lex_duration`, the units from f on
 unfoldable pub lex_duration : List ℕ → ℕ → Lexeme
@@ -74,7 +74,7 @@ lex_tail s n f =
 -- a run of n bytes that `rfc3339::parse` takes is a Timestamp; document 02, #101: "a bad one is Illegal, reason 21, in both modes"
 abbrev pub timestamp_by : Option Instant → ℕ → Lexeme
 timestamp_by (Some i) n = whole K.Timestamp n
-timestamp_by None n = illegal reasons.bad_timestamp 0 n
+timestamp_by None n = illegal R.BadTimestamp 0 n
 
 -- `lex_timestamp`, the first digits ending at n: the run is judged by itself
 unfoldable pub lex_timestamp : List ℕ → ℕ → Lexeme
@@ -98,6 +98,6 @@ is_sign a = eqb a (code "+") || eqb a (code "-")
 unfoldable pub lex_number : List ℕ → Lexeme
 lex_number s =
     pick (is_sign (byte s 0) && at_inf s) (whole K.Float 4)
-    (pick (eqb (byte s 0) (code "+")) (illegal reasons.plus_without_inf 0 1)
-    (pick (eqb (byte s 0) (code "-") && not (is_digit (byte s 1))) (illegal reasons.minus_without_digit 0 1)
+    (pick (eqb (byte s 0) (code "+")) (illegal R.PlusWithoutInf 0 1)
+    (pick (eqb (byte s 0) (code "-") && not (is_digit (byte s 1))) (illegal R.MinusWithoutDigit 0 1)
     (lex_digits s (pick (eqb (byte s 0) (code "-")) 1 0))))

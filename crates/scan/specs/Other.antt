@@ -2,7 +2,7 @@
 use Rattle.std.specs.Prelude.{List, ℕ}
 use Rattle.utf8.specs.Character.{code_of}
 use Rattle.utf8.specs.Check.{char_end}
-use Rattle.token.specs.Reason as reasons
+use Rattle.token.specs.declared.reason.Reason.TheVariants as R
 use Rattle.lexeme.specs.Lexeme.{illegal}
 use Rattle.lexeme.specs.declared.Lexeme.{Lexeme}
 
@@ -10,4 +10,4 @@ use Rattle.lexeme.specs.declared.Lexeme.{Lexeme}
 
 -- "1 unexpected character (detail: its code point)"
 unfoldable pub lex_other : List ℕ → Lexeme
-lex_other s = illegal reasons.unexpected_character (code_of s) (char_end s 1)
+lex_other s = illegal R.UnexpectedCharacter (code_of s) (char_end s 1)

@@ -1,10 +1,11 @@
 -- What a string literal stands for, from the byte after its opening quote to where it stops.
-use Rattle.std.specs.Prelude.{List, [], ◌∷◌, ◌++◌, ℕ, zero, suc, ◌+◌, ◌-◌, eqb}
+use Rattle.std.specs.Prelude.{Option, Some, None, List, [], ◌∷◌, ◌++◌, ℕ, zero, suc, ◌+◌, ◌-◌, eqb}
 use Prim.Native.Char.{code}
 use Rattle.base.specs.Choice.{pick}
 use Rattle.base.specs.Bytes.{byte}
 use Rattle.utf8.specs.Character.{octets_of, encoded}
-use Rattle.token.specs.Reason as reasons
+use Rattle.token.specs.Reason.{is_unknown_escape}
+use Rattle.token.specs.declared.reason.Reason.{Reason}
 use Rattle.lexeme.specs.Lexeme.{Note}
 use Rattle.lexeme.specs.declared.Mode.{Mode}
 use Rattle.lexeme.specs.declared.Mode.TheVariants.{Strict, Tolerant}
@@ -18,8 +19,9 @@ use Rattle.strings.specs.declared.literal.Step.TheVariants.{Go, Stop}
 
 -- Types of the code (src/literal.rt). `End`, how a literal ends: `Closed`; `AtNewline`; `Cut`, after a backslash at the end of the text; `Open`, at
 -- the end of the text; `Bad reason letter`, at a bad escape. `Step`, what a mode makes of a piece: `Go encoded used reason`, the bytes of `encoded` are
--- decoded from `used` bytes of text, and a reason other than none is reported; `Stop end stop`, the literal ends at the offset `stop`.
--- Types that other files explain: `Encoded` in utf8/specs/Character.antt; `Mode` in lexeme/specs/Lexeme.antt; `Piece` in Piece.antt.
+-- decoded from `used` bytes of text, and its reason is reported, where it has one; `Stop end stop`, the literal ends at the offset `stop`.
+-- Types that other files explain: `Encoded` in utf8/specs/Character.antt; `Mode` in lexeme/specs/Lexeme.antt; `Piece` in Piece.antt;
+-- `Reason` in token/specs/Reason.antt.
 
 -- the decoded bytes, the reports of bad escapes in order, where the literal stops, and how it ends
 pub record Decoded : Type 0 where
@@ -31,9 +33,9 @@ pub record Decoded : Type 0 where
 -- What a mode makes of a piece at an offset. Document 01: "Tolerant strings leave an unescaped newline for the next token"; "A bad escape is
 -- reported at its letter and kept as backslash and letter"; "A backslash at the end is dropped"
 unfoldable pub step_of : Mode → ℕ → Piece → Step
-step_of m at (piece.Bytes e used) = Go e used reasons.none
+step_of m at (piece.Bytes e used) = Go e used None
 step_of Strict at (piece.Bad reason letter used) = Stop (end.Bad reason letter) (at + used)
-step_of Tolerant at (piece.Bad reason letter used) = Go (encoded (code "\\" ∷ letter ∷ [])) used reason
+step_of Tolerant at (piece.Bad reason letter used) = Go (encoded (code "\\" ∷ letter ∷ [])) used (Some reason)
 step_of m at piece.Close = Stop end.Closed (at + 1)
 step_of Strict at piece.Newline = Stop end.AtNewline (at + 1)
 step_of Tolerant at piece.Newline = Stop end.AtNewline at
@@ -41,13 +43,13 @@ step_of m at piece.Cut = Stop end.Cut (at + 1)
 step_of m at piece.Open = Stop end.Open at
 
 -- "9 unknown escape (detail: its byte)"
-unfoldable pub letter_detail : ℕ → ℕ → ℕ
-letter_detail reason letter = pick (eqb reason reasons.unknown_escape) letter 0
+unfoldable pub letter_detail : Reason → ℕ → ℕ
+letter_detail reason letter = pick (is_unknown_escape reason) letter 0
 
--- the report of a bad escape whose backslash stands at the offset, or none where there is no reason
-unfoldable pub step_notes : ℕ → ℕ → ℕ → List Note
-step_notes reason letter at =
-    pick (eqb reason reasons.none) [] (record { reason = reason; detail = letter_detail reason letter; offset = at + 1 } ∷ [])
+-- the report of a bad escape whose backslash stands at the offset
+unfoldable pub step_notes : Option Reason → ℕ → ℕ → List Note
+step_notes None letter at = []
+step_notes (Some reason) letter at = record { reason = reason; detail = letter_detail reason letter; offset = at + 1 } ∷ []
 
 -- what a step gives, before what the rest gives
 abbrev pub prepend : List ℕ → List Note → Decoded → Decoded

@@ -1,6 +1,6 @@
 -- Helper definitions, for proofs and inner contracts alone: parts of a string literal that are read at once, bytes that stand for themselves, for
 -- `lex_string` pushes every byte that is no quote, newline or backslash, and escapes of one letter.
-use Rattle.std.specs.Prelude.{◌≡◌, Bool, not, ◌&&◌, List, [], ◌∷◌, ℕ, ◌+◌, ◌≤◌, eqb, length, drop}
+use Rattle.std.specs.Prelude.{◌≡◌, Option, Some, None, Bool, not, ◌&&◌, List, [], ◌∷◌, ℕ, ◌+◌, ◌≤◌, eqb, length, drop}
 use Prim.Native.Char.{code}
 use Rattle.base.specs.Choice.{pick}
 use Rattle.utf8.specs.Grammar.{Octets}
@@ -18,15 +18,20 @@ is_ordinary b = (not (eqb b (code "\"")) && not (eqb b (code "\n"))) && not (eqb
 abbrev pub in_ordinary : ℕ → ℕ → Bool
 in_ordinary a b = is_ordinary a
 
--- the byte that a backslash and a letter stand for, and 0 where two bytes are no such escape
-unfoldable pub simple_at : ℕ → ℕ → ℕ
-simple_at x y = pick (eqb x (code "\\")) (simple_of y) 0
+-- the byte that a backslash and a letter stand for
+unfoldable pub simple_at : ℕ → ℕ → Option ℕ
+simple_at x y = pick (eqb x (code "\\")) (simple_of y) None
+
+-- a byte before others, where there is one; else none of them
+abbrev pub before : Option ℕ → List ℕ → List ℕ
+before None bs = []
+before (Some b) bs = b ∷ bs
 
 -- the bytes that the escapes of one letter at the front stand for
 unfoldable pub simple_bytes : List ℕ → List ℕ
 simple_bytes [] = []
 simple_bytes (x ∷ []) = []
-simple_bytes (x ∷ y ∷ l) = pick (eqb (simple_at x y) 0) [] (simple_at x y ∷ simple_bytes l)
+simple_bytes (x ∷ y ∷ l) = before (simple_at x y) (simple_bytes l)
 
 -- in each mode, the text from i to r stands for n bytes, which are whole characters, and makes no report
 pub record Spells (s : List ℕ) (i r n : ℕ) : Type 0 where

@@ -1,3 +1,4 @@
 pub mod Places
 pub mod KindNumbers
 pub mod Reasons
+pub mod ReasonNumbers

@@ -1,8 +1,12 @@
 -- The reasons of Illegal tokens and of reports: document 01, "Reasons", and document 02, #101.
-use Rattle.std.specs.Prelude.{◌≡◌, Bool, ◌||◌, ◌⊎◌, ℕ, ◌≤◌, eqb}
+use Rattle.std.specs.Prelude.{◌≡◌, Bool, ◌||◌, ◌⊎◌, Option, Some, None, ℕ, ◌≤◌, eqb}
 use Rattle.base.specs.Choice.{pick}
 use Rattle.base.specs.Bytes.{within}
 use Rattle.token.specs.Kind.{illegal_number}
+use Rattle.token.specs.declared.reason.Reason.{Reason}
+use Rattle.token.specs.declared.reason.Reason.TheVariants as R
+
+-- Types of the code (src/reason.rt). `Reason`: the reasons that are numbered here, in this order.
 
 -- no reason: of a token that is not Illegal
 abbrev pub none : ℕ
@@ -91,6 +95,39 @@ bytes_ended_at_newline = 20
 -- "21", a bad timestamp; document 02, #101: "a bad one is Illegal, reason 21, in both modes, and token files now allow that reason"
 abbrev pub bad_timestamp : ℕ
 bad_timestamp = 21
+
+-- the number of a reason
+unfoldable pub reason_number : Reason → ℕ
+reason_number R.UnexpectedCharacter = unexpected_character
+reason_number R.OpenBlockComment = open_block_comment
+reason_number R.NewlineInString = newline_in_string
+reason_number R.OpenEscape = open_escape
+reason_number R.BadX = bad_x
+reason_number R.BadOctal = bad_octal
+reason_number R.BadU = bad_u
+reason_number R.BadCapitalU = bad_capital_u
+reason_number R.UnknownEscape = unknown_escape
+reason_number R.OpenString = open_string
+reason_number R.StringNotUtf8 = string_not_utf8
+reason_number R.OpenTripleString = open_triple_string
+reason_number R.BytesOverLimit = bytes_over_limit
+reason_number R.OpenBytes = open_bytes
+reason_number R.AtWithoutName = at_without_name
+reason_number R.PlusWithoutInf = plus_without_inf
+reason_number R.MinusWithoutDigit = minus_without_digit
+reason_number R.BadDuration = bad_duration
+reason_number R.StringEndedAtNewline = string_ended_at_newline
+reason_number R.BytesEndedAtNewline = bytes_ended_at_newline
+reason_number R.BadTimestamp = bad_timestamp
+
+-- whether a reason is the one of the name
+abbrev pub is_unknown_escape : Reason → Bool
+is_unknown_escape r = eqb (reason_number r) unknown_escape
+
+-- the number of a token's reason; "else 0"
+abbrev pub number_of : Option Reason → ℕ
+number_of None = none
+number_of (Some r) = reason_number r
 
 -- the reasons of Illegal tokens: "19 and 20 are reports only"
 abbrev pub of_illegal : ℕ → Bool

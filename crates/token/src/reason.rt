@@ -1,62 +1,77 @@
 // The reasons of Illegal tokens and of reports, by the numbers of documents 01 and 02.
 ghost use Rattle.std.specs.Prelude.{◌≡◌};
-ghost use Rattle.token.specs.Reason.{reason_ok};
+ghost use Rattle.token.specs.Reason.{reason_number, is_unknown_escape, number_of, reason_ok};
 
 use crate::kind::ILLEGAL;
 
-// Of a token that is not Illegal.
-pub const NONE: usize = 0;
+// The numbers by which the rows of token files are judged. Any number can stand there, so they are compared as numbers.
+const NONE: usize = 0;
 
-pub const UNEXPECTED_CHARACTER: usize = 1;
+const FIRST: usize = Reason::UnexpectedCharacter as usize;
 
-pub const OPEN_BLOCK_COMMENT: usize = 2;
+const BAD_DURATION: usize = Reason::BadDuration as usize;
 
-pub const NEWLINE_IN_STRING: usize = 3;
+const BAD_TIMESTAMP: usize = Reason::BadTimestamp as usize;
 
-pub const OPEN_ESCAPE: usize = 4;
+#[derive(Clone, Copy, PartialEq, Eq, Debug)]
+pub enum Reason {
+    UnexpectedCharacter = 1,
+    OpenBlockComment,
+    NewlineInString,
+    OpenEscape,
+    BadX,
+    BadOctal,
+    BadU,
+    BadCapitalU,
+    UnknownEscape,
+    OpenString,
+    StringNotUtf8,
+    OpenTripleString,
+    BytesOverLimit,
+    OpenBytes,
+    AtWithoutName,
+    PlusWithoutInf,
+    MinusWithoutDigit,
+    BadDuration,
+    // Of a report only.
+    StringEndedAtNewline,
+    // Of a report only.
+    BytesEndedAtNewline,
+    BadTimestamp,
+}
 
-pub const BAD_X: usize = 5;
+#[tactic(auto, unfolding(crate::specs::Reason::reason_number))]
+impl Reason {
+    // The reason's number in records, reports and token files.
+    pub fn number(self) -> usize
+        ensures { result ≡ reason_number self }
+    {
+        self as usize
+    }
 
-pub const BAD_OCTAL: usize = 6;
+    pub fn is_unknown_escape(self) -> bool
+        ensures { result ≡ is_unknown_escape self }
+    {
+        self == Reason::UnknownEscape
+    }
+}
 
-pub const BAD_U: usize = 7;
-
-pub const BAD_CAPITAL_U: usize = 8;
-
-pub const UNKNOWN_ESCAPE: usize = 9;
-
-pub const OPEN_STRING: usize = 10;
-
-pub const STRING_NOT_UTF8: usize = 11;
-
-pub const OPEN_TRIPLE_STRING: usize = 12;
-
-pub const BYTES_OVER_LIMIT: usize = 13;
-
-pub const OPEN_BYTES: usize = 14;
-
-pub const AT_WITHOUT_NAME: usize = 15;
-
-pub const PLUS_WITHOUT_INF: usize = 16;
-
-pub const MINUS_WITHOUT_DIGIT: usize = 17;
-
-pub const BAD_DURATION: usize = 18;
-
-// Of a report only.
-pub const STRING_ENDED_AT_NEWLINE: usize = 19;
-
-// Of a report only.
-pub const BYTES_ENDED_AT_NEWLINE: usize = 20;
-
-pub const BAD_TIMESTAMP: usize = 21;
+// The number that a record has where a token has this reason or none.
+pub fn number_of(reason: Option<Reason>) -> usize
+    ensures { result ≡ number_of reason }
+{
+    match reason {
+        Some(reason) => reason.number(),
+        None => NONE,
+    }
+}
 
 // Whether a record may have this reason with the kind of this number.
 pub fn reason_ok(kind: usize, reason: usize) -> bool
     ensures { result ≡ reason_ok kind reason }
 {
     if kind == ILLEGAL {
-        matches!(reason, UNEXPECTED_CHARACTER..=BAD_DURATION | BAD_TIMESTAMP)
+        matches!(reason, FIRST..=BAD_DURATION | BAD_TIMESTAMP)
     } else {
         reason == NONE
     }

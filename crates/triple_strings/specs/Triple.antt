@@ -4,8 +4,8 @@ use Prim.Native.Char.{code}
 use Rattle.base.specs.Choice.{pick}
 use Rattle.base.specs.Bytes.{byte}
 use Rattle.utf8.specs.Check.{char_end}
-use Rattle.token.specs.Reason as reasons
 use Rattle.token.specs.declared.kind.TokenKind.TheVariants as K
+use Rattle.token.specs.declared.reason.Reason.TheVariants as R
 use Rattle.lexeme.specs.Lexeme.{extent, illegal, Note, note_at_start}
 use Rattle.lexeme.specs.declared.Lexeme.{Lexeme}
 use Rattle.lexeme.specs.declared.Mode.{Mode}
@@ -41,7 +41,7 @@ open_triple_end s = char_end s (pick (leb 5 (length s)) (length s - 2) 3)
 
 -- "open triple string"; the tolerant reader takes all that is left and reports it
 abbrev pub open_triple : Mode → List ℕ → Lexeme
-open_triple Strict s = illegal reasons.open_triple_string 0 (open_triple_end s)
+open_triple Strict s = illegal R.OpenTripleString 0 (open_triple_end s)
 open_triple Tolerant s = extent K.String (length s) 0 (length (dedent (raw_bytes s))) 1
 
 -- the triple-quoted string at the front of s, which begins with three quotes
@@ -60,7 +60,7 @@ triple_bytes m s = pick (closed s) (dedent (raw_bytes s)) (open_triple_bytes m s
 -- the report of an open one, at its start
 abbrev pub open_triple_notes : Mode → List Note
 open_triple_notes Strict = []
-open_triple_notes Tolerant = note_at_start reasons.open_triple_string ∷ []
+open_triple_notes Tolerant = note_at_start R.OpenTripleString ∷ []
 
 -- its reports
 unfoldable pub triple_notes : Mode → List ℕ → List Note

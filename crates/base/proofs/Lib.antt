@@ -1,6 +1,7 @@
 pub mod Tests
 pub mod Reaches
 pub mod Blocks
+pub mod Chunks
 pub mod Windows
 pub mod Fronts
 pub mod Walks

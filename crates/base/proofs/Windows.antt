@@ -71,11 +71,9 @@ module _ (p : ℕ → ℕ → Bool) (s : List ℕ) (i : ℕ) (l : 64 < length s 
       let o : p (byte s (i + n)) (byte s (i + n + 1)) ≡ true = rw (a, b) at (run_all p window n f) in
       rw q (reach_step p s (i + n) (omega arith) o ∙ steps n (omega arith) (omega arith))
 
-  pub ahead_window : (at n : ℕ) → Ahead p s at i → n ≡ window_run p (take (i + 64 + 1 - i) (drop i s)) → Ahead p s at (i + n)
+  pub ahead_window : (at n : ℕ) → Ahead p s at i → n ≡ window_run p (take 65 (drop i s)) → Ahead p s at (i + n)
   unfolding window window_run
-  ahead_window at n u e =
-      let z : i + 64 + 1 - i ≡ 65 = omega arith in
-      let f : n ≡ window_run p window = rw z at e in
+  ahead_window at n u f =
       let h : n ≤ 64 = rw f (omega arith) in
       let g : n ≤ run p window = rw f (omega arith) in
       record { later = omega (arith, u.later); inside = omega arith; same = steps n h g ∙ u.same }

@@ -21,7 +21,7 @@ impl Run for Digits {
 
 impl ShortRun for Digits {
     fn reach_on(self, s: &[u8], at: usize) -> usize {
-        reach_kind(DIGIT, s, at)
+        reach_kind::<DIGIT>(s, at)
     }
 }
 

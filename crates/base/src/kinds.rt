@@ -3,7 +3,7 @@
 ghost use Rattle.std.specs.Prelude.{◌≡◌, true, ◌+◌, ◌≤◌};
 ghost use Rattle.base.specs.Runs.{reach};
 ghost use Rattle.base.specs.Kinds.{kinds, kind_of};
-ghost use Rattle.base.specs.Masks.{mask_of, word_of, has_bit, is_kind, in_kind};
+ghost use Rattle.base.specs.Masks.{mask_of, word_of, has_bit, is_kind, in_kind, kind_test};
 
 use crate::runs::{Run, reach_long};
 
@@ -285,7 +285,7 @@ pub fn byte_kind(b: u8) -> u8
     ensures { result ≡ kind_of b }
 {
     let t = BYTE_KINDS;
-    t[b as usize]
+    t[usize::from(b)]
 }
 
 // A bit for each of the sixteen entries from `at` on: whether it counts the kind n.
@@ -295,7 +295,7 @@ fn row(t: &[u8; 256], n: u8, at: usize) -> u64
 {
     let mut w: u64 = 0;
     for i in 0..16 {
-        w |= ((t[at + i] & n != 0) as u64) << i;
+        w |= u64::from(t[at + i] & n != 0) << i;
     }
     w
 }
@@ -303,7 +303,7 @@ fn row(t: &[u8; 256], n: u8, at: usize) -> u64
 // The word of a kind among the 64 bytes from which b is, a bit for each. The compiler keeps no constant array in memory: one that is read at an index
 // which it does not know is laid on the stack at each call. Here it knows every index, and finds the words itself. It does so for loops of sixteen
 // turns whose kind and start are literals, and for no longer ones.
-pub fn word<const KIND: u8>(b: u8) -> u64
+fn word<const KIND: u8>(b: u8) -> u64
     requires { is_kind KIND ≡ true }
     ensures { result ≡ word_of KIND b }
 {
@@ -329,38 +329,42 @@ pub fn word<const KIND: u8>(b: u8) -> u64
 }
 
 // Whether the bit of a byte is set in the word of its 64 bytes.
-pub fn has_bit(w: u64, b: u8) -> bool
+fn has_bit(w: u64, b: u8) -> bool
     ensures { result ≡ has_bit w b }
 {
     (w >> (b & 63)) & 1 != 0
 }
 
-// The bytes of a kind, by the table laid once and lent.
-#[derive(Clone, Copy)]
-struct Laid<'a> {
-    table: &'a [u8; 256],
-    kind: u8,
-    ghost is_table: { table.now ≡ kinds },
-    ghost is_kind: { is_kind kind ≡ true },
+// Whether a byte is of a kind.
+#[tactic(auto, using(crate::proofs::ByteKinds::word_tells))]
+pub fn of_kind<const KIND: u8>(b: u8) -> bool
+    requires { is_kind KIND ≡ true }
+    ensures { result ≡ kind_test KIND b }
+{
+    has_bit(word::<KIND>(b), b)
 }
 
-impl<'a> Run for Laid<'a> {
-    ghost has = { λ run. in_kind run.kind };
+// The bytes of a kind, by the table laid once and lent.
+#[derive(Clone, Copy)]
+struct Laid<'a, const KIND: u8> {
+    table: &'a [u8; 256],
+    ghost is_table: { table.now ≡ kinds },
+    ghost is_kind: { is_kind KIND ≡ true },
+}
+
+impl<'a, const KIND: u8> Run for Laid<'a, KIND> {
+    ghost has = { λ _. in_kind KIND };
 
     fn has(self, a: u8, _b: u8) -> bool {
-        self.kind & self.table[a as usize] != 0
+        KIND & self.table[usize::from(a)] != 0
     }
 }
 
 // The end of the run of bytes of a kind that starts at `at`, for runs that are often long.
-pub fn reach_kind(kind: u8, s: &[u8], at: usize) -> usize
-    requires { is_kind kind ≡ true }
-    ensures { result ≡ reach (in_kind kind) s.now at }
+pub fn reach_kind<const KIND: u8>(s: &[u8], at: usize) -> usize
+    requires { is_kind KIND ≡ true }
+    ensures { result ≡ reach (in_kind KIND) s.now at }
 {
     let table = BYTE_KINDS;
-    let laid = Laid {
-        table: &table,
-        kind,
-    };
-    reach_long(laid, s, at)
+    reach_long(Laid::<KIND> { table: &table }, s, at)
 }

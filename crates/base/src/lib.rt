@@ -19,10 +19,7 @@ use crate::runs::BLOCK;
 pub fn peek(s: &[u8], k: usize) -> u8
     ensures { result ≡ byte s.now k }
 {
-    if k < s.len() {
-        return s[k];
-    }
-    0
+    s.get(k).copied().unwrap_or(0)
 }
 
 // Stores the elements of `xs` from index `at` on, one by one.
@@ -36,8 +33,8 @@ pub fn store<T: Copy>(buf: &mut [T], at: usize, xs: &[T])
 }
 
 // Stores a block. It is all loaded before it is stored, so that it is one load and one store.
-fn store_block(buf: &mut [u8], at: usize, xs: &[u8])
-    requires { (length xs.now ≡ 16) × (at + 16 ≤ length buf.old) }
+fn store_block(buf: &mut [u8], at: usize, xs: &[u8; BLOCK])
+    requires { at + 16 ≤ length buf.old }
     ensures { buf.new ≡ sets buf.old at xs.now }
 {
     let mut block = [0u8; BLOCK];
@@ -50,17 +47,13 @@ pub fn copy(buf: &mut [u8], at: usize, xs: &[u8])
     requires { at + length xs.now ≤ length buf.old }
     ensures { buf.new ≡ sets buf.old at xs.now }
 {
-    let size = xs.len();
-    let mut k = 0;
-    while BLOCK <= size - k {
-        let end = k + BLOCK;
-        store_block(buf, at + k, &xs[k..end]);
-        k = end;
-    }
-    if BLOCK <= size {
-        let last = size - BLOCK;
-        store_block(buf, at + last, &xs[last..]);
+    let Some(last) = xs.last_chunk::<BLOCK>() else {
+        store(buf, at, xs);
         return;
+    };
+    let (blocks, _) = xs.as_chunks::<BLOCK>();
+    for (n, block) in blocks.iter().enumerate() {
+        store_block(buf, at + n * BLOCK, block);
     }
-    store(buf, at, xs);
+    store_block(buf, at + (xs.len() - BLOCK), last);
 }

@@ -9,6 +9,12 @@ pub const BLOCK: usize = 16;
 // How many bytes a window has, wherever the first byte that is not in a run is searched in one.
 pub const WINDOW: usize = 64;
 
+// A window and the byte after it.
+const AHEAD: usize = 65;
+
+// The index of no byte of a window, in a byte as the others.
+const NONE: u8 = 64;
+
 // The bytes of a run.
 pub trait Run: Copy {
     ghost has: { Self → ℕ → ℕ → Bool };
@@ -56,21 +62,16 @@ pub fn past_blocks<R: Run>(run: R, s: &[u8], at: usize) -> usize
 
 // How many bytes of a window, which has one more after it, belong to the run: the first that does not is searched by the least index. The search has
 // no branch, so that several bytes can be tested by one instruction.
-fn window_count<R: Run>(run: R, s: &[u8]) -> usize
-    requires { 64 < length s.now }
+fn window_count<R: Run>(run: R, s: &[u8; AHEAD]) -> usize
     ensures { result ≡ window_run (R.has run) s.now }
 {
-    let mut m = WINDOW as u8;
-    for j in 0..WINDOW as u8 {
-        let i = j as usize;
-        let k = if run.has(s[i], s[i + 1]) {
-            WINDOW as u8
-        } else {
-            j
-        };
+    let mut m = NONE;
+    for j in 0..NONE {
+        let i = usize::from(j);
+        let k = if run.has(s[i], s[i + 1]) { NONE } else { j };
         m = m.min(k);
     }
-    m as usize
+    usize::from(m)
 }
 
 // The end of the run in the window at `at`, where there is a whole one.
@@ -78,11 +79,10 @@ pub fn past_window<R: Run>(run: R, s: &[u8], at: usize) -> usize
     requires { at ≤ length s.now }
     ensures { Ahead (R.has run) s.now at result }
 {
-    if s.len() - at <= WINDOW {
-        return at;
+    match s[at..].first_chunk::<AHEAD>() {
+        Some(window) => at + window_count(run, window),
+        None => at,
     }
-    let end = at + WINDOW + 1;
-    at + window_count(run, &s[at..end])
 }
 
 // The end of the windows from `at` on that belong to the run, and of the run in the window after them.
@@ -115,30 +115,27 @@ pub fn reach_long<R: Run>(run: R, s: &[u8], at: usize) -> usize
 pub fn reach_bytes<R: Run>(run: R, s: &[u8], at: usize) -> usize
     ensures { result ≡ reach (R.has run) s.now at }
 {
-    let mut i = at;
-    while i < s.len() {
+    for i in at..s.len() {
         if !run.has(s[i], crate::peek(s, i + 1)) {
             return i;
         }
-        i += 1;
     }
-    i
+    s.len().max(at)
 }
 
 // The same, for runs that are often short: it is small, and goes on by blocks only where a run is long.
 pub fn reach_run<R: ShortRun>(run: R, s: &[u8], at: usize) -> usize
     ensures { result ≡ reach (R.has run) s.now at }
 {
-    let mut i = at;
-    while i < s.len() {
+    for i in at..s.len() {
         if !run.has(s[i], crate::peek(s, i + 1)) {
             return i;
         }
-        i += 1;
-        if i % BLOCK == 0 {
+        let next = i + 1;
+        if next % BLOCK == 0 {
             // a slice of its own, so that `s` itself stays in registers
-            return run.reach_on(&s[0..], i);
+            return run.reach_on(&s[0..], next);
         }
     }
-    i
+    s.len().max(at)
 }

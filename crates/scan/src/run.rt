@@ -64,7 +64,7 @@ impl Run for Name {
 
 impl ShortRun for Name {
     fn reach_on(self, s: &[u8], at: usize) -> usize {
-        reach_kind(NAME, s, at)
+        reach_kind::<NAME>(s, at)
     }
 }
 

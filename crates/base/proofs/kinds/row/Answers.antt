@@ -13,7 +13,7 @@ pub loop-i-preserved : goal.loop-i-preserved
 unfolding mask_of
 loop-i-preserved c = let l = c.loop-i in
     let q : l.i + 1 ≡ suc l.i = omega arith in
-    rw (q, c.requires.0, l.invariant)
+    rw (q, c.from.ensures, c.requires.0, l.invariant)
 
 pub returns : goal.returns
 returns c = let l = c.loop-i in

@@ -1,10 +1,7 @@
 -- `reach_bytes` meets its contract: the run from here has the end that the run from `at` has. Assumes nothing.
-use Rattle.std.proofs.Common.{◌≡◌, ◌-◌, length}
+use Rattle.std.proofs.Common.{◌≡◌, ◌≤◌, max, length}
 use Rattle.base.specs.Runs.{reach}
 use Rattle.base.proofs.runs.reach_bytes.Given as goal
 
 abbrev pub invariant-loop-i : goal.invariant-loop-i
-invariant-loop-i g l = reach (g.R.Run.has l.run) l.s l.i ≡ reach (g.R.Run.has l.run) l.s l.at
-
-abbrev pub decreases-loop-i : goal.decreases-loop-i
-decreases-loop-i g l = length l.s - l.i
+invariant-loop-i g l = (reach (g.R.Run.has l.run) l.s l.i ≡ reach (g.R.Run.has l.run) l.s l.at) × (l.i ≤ max (length l.s) l.at)

@@ -1,5 +1,6 @@
 -- `window_count` meets its contract: what the search has found before each byte. Assumes nothing.
 use mathlib.Core.Path.{◌≡◌}
+use borrow.Author.Rules.{rules}
 use Rattle.base.specs.Choice.{pick}
 use Rattle.base.proofs.Windows.{searched_first, searched_turn, searched_end}
 use Rattle.base.proofs.runs.window_count.Given.{Over}
@@ -16,7 +17,7 @@ loop-j-init g c = searched_first _ _
 pub loop-j-preserved : goal.loop-j-preserved
 loop-j-preserved g c =
     let l = c.loop-j in
-    rw c.min-m.ensures (searched_turn (g.R.Run.has _) _ l.j l.m c.if-has.k c.requires c.loop-j-test.true l.invariant (rw (← c.has.ensures) (index g (goal.at.loop-j-preserved g c).Joined-has)))
+    rw c.min-m.ensures (searched_turn (g.R.Run.has _) _ l.j l.m c.if-has.k (search rules) c.loop-j-test.true l.invariant (rw (c.has.ensures, c.from-i.ensures) at (index g (goal.at.loop-j-preserved g c).Joined-has)))
 
 pub returns : goal.returns
-returns g c = let l = c.loop-j in searched_end (g.R.Run.has _) _ l.j l.m c.loop-j-test.false l.auto.j-end l.invariant
+returns g c = let l = c.loop-j in rw c.from.ensures (searched_end (g.R.Run.has _) _ l.j l.m c.loop-j-test.false l.auto.j-end l.invariant)

@@ -15,8 +15,8 @@ use Rattle.base.specs.Runs.{reach}
 use Rattle.base.proofs.Reaches.{reach_le, reach_one, reach_fails}
 use Rattle.base.proofs.Tests.{and_left, and_right, pick_case, in_text}
 use Rattle.token.specs.Kind.{kind_number}
-use Rattle.token.specs.Reason as reasons
 use Rattle.token.specs.declared.kind.TokenKind.TheVariants as K
+use Rattle.token.specs.declared.reason.Reason.TheVariants as R
 use Rattle.lexeme.specs.Lexeme.{Note}
 use Rattle.lexeme.specs.declared.Mode.{Mode}
 use Rattle.lexeme.specs.declared.Mode.TheVariants.{Strict, Tolerant}
@@ -72,7 +72,7 @@ module _ (s : List ℕ) (h : 2 ≤ length s) where
 
   open_scanned : (m : Mode) → Scanned s (open_comment m s)
   unfolding open_comment
-  open_scanned Strict = illegal_scanned s (open_end s) open_ends reasons.open_block_comment 0 (omega arith) (omega arith)
+  open_scanned Strict = illegal_scanned s (open_end s) open_ends R.OpenBlockComment 0 (λ q. cc) (omega arith)
   open_scanned Tolerant =
       extent_scanned s (length s) (record { some = omega arith; inside = omega arith; between = end_boundary s }) K.Comment 0 (length s) 1 comment
       (omega arith) (omega arith)

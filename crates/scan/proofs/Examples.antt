@@ -11,6 +11,7 @@ use Rattle.base.specs.Bytes.{same_bytes}
 use Rattle.base.specs.Classes.{is_digit, is_lower_alpha, is_ident_start, is_ident_part, is_duration_unit, is_space}
 use Rattle.base.specs.Digits.{value_from}
 use Rattle.token.specs.declared.kind.TokenKind.TheVariants as K
+use Rattle.token.specs.declared.reason.Reason.TheVariants as R
 use Rattle.lexeme.specs.Lexeme.{extent, whole, illegal, precise, duration, Note, note_at_start}
 use Rattle.lexeme.specs.declared.Lexeme.{Lexeme}
 use Rattle.lexeme.specs.declared.Mode.{Mode}
@@ -70,30 +71,30 @@ cases =
     -- P `1.5ms`
     ∷ (row (lex_number (ascii "1.5ms")) (duration 5 (pos 1500000)))
     -- P `/* a` strict
-    ∷ (block Strict (ascii "/* a") (illegal 2 0 3) [])
+    ∷ (block Strict (ascii "/* a") (illegal R.OpenBlockComment 0 3) [])
     -- P its rest
     ∷ (row (lex_ident (ascii "a")) (whole K.Ident 1))
     -- P `/* a` tolerant
-    ∷ (block Tolerant (ascii "/* a") (extent K.Comment 4 0 4 1) (note_at_start 2 ∷ []))
+    ∷ (block Tolerant (ascii "/* a") (extent K.Comment 4 0 4 1) (note_at_start R.OpenBlockComment ∷ []))
     -- P `-9223372036854775808ns`
     ∷ (row (lex_number (code "-" ∷ most)) (duration 22 (negsuc 9223372036854775807)))
     -- P without `-`
-    ∷ (row (lex_number most) (illegal 18 0 21))
+    ∷ (row (lex_number most) (illegal R.BadDuration 0 21))
     -- P written twice
-    ∷ (row (lex_number (most ++ most)) (illegal 18 0 42))
+    ∷ (row (lex_number (most ++ most)) (illegal R.BadDuration 0 42))
     -- P `b"AAAA"`, limit 3
     ∷ (bytes Strict 3 (ascii "b\"AAAA\"") (extent K.Bytes 7 2 4 0) [])
     -- P limit 2
-    ∷ (bytes Strict 2 (ascii "b\"AAAA\"") (illegal 13 0 6) [])
+    ∷ (bytes Strict 2 (ascii "b\"AAAA\"") (illegal R.BytesOverLimit 0 6) [])
     -- limit 2, tolerant
-    ∷ (bytes Tolerant 2 (ascii "b\"AAAA\"") (illegal 13 0 6) [])
+    ∷ (bytes Tolerant 2 (ascii "b\"AAAA\"") (illegal R.BytesOverLimit 0 6) [])
     -- P `2024-`, as document 02, #101, has it
-    ∷ (row (lex_number (ascii "2024-")) (illegal 21 0 5))
+    ∷ (row (lex_number (ascii "2024-")) (illegal R.BadTimestamp 0 5))
     ∷ (row (lex_number (ascii "1970-01-01T00:00:00Z")) (whole K.Timestamp 20))
     -- P `-2024-`: Int, then Illegal 17
     ∷ (row (lex_number (ascii "-2024-")) (whole K.Int 5))
     -- P its rest
-    ∷ (row (lex_number (ascii "-")) (illegal 17 0 1))
+    ∷ (row (lex_number (ascii "-")) (illegal R.MinusWithoutDigit 0 1))
     -- P `12p3`
     ∷ (row (lex_number (ascii "12p3")) (precise K.Int 2 4))
     -- P `12p`: Int, then Ident
@@ -103,47 +104,47 @@ cases =
     -- `5μs` with U+03BC: Int, Illegal 1, Ident
     ∷ (row (lex_number (ascii "5" ++ (0xCE ∷ 0xBC ∷ ascii "s"))) (whole K.Int 1))
     -- its rest
-    ∷ (row (lex_other (0xCE ∷ 0xBC ∷ ascii "s")) (illegal 1 956 2))
+    ∷ (row (lex_other (0xCE ∷ 0xBC ∷ ascii "s")) (illegal R.UnexpectedCharacter 956 2))
     -- and the rest of that
     ∷ (row (lex_ident (ascii "s")) (whole K.Ident 1))
     -- `5µs` with U+00B5, and a blank
     ∷ (row (lex_number (ascii "5" ++ (0xC2 ∷ 0xB5 ∷ ascii "s "))) (duration 4 (pos 5000)))
-    ∷ (row (lex_number (ascii "5min")) (illegal 18 0 4))
+    ∷ (row (lex_number (ascii "5min")) (illegal R.BadDuration 0 4))
     ∷ (row (lex_number (ascii "1..2")) (whole K.Float 2))
     ∷ (row (lex_number (ascii "1e")) (whole K.Float 2))
     ∷ (row (lex_number (ascii "1.5e-3p20")) (precise K.Float 6 9))
-    ∷ (row (lex_number (ascii "2024-01//")) (illegal 21 0 7))
+    ∷ (row (lex_number (ascii "2024-01//")) (illegal R.BadTimestamp 0 7))
     -- `2024-é)`
-    ∷ (row (lex_number (ascii "2024-" ++ (0xC3 ∷ 0xA9 ∷ ascii ")"))) (illegal 21 0 7))
+    ∷ (row (lex_number (ascii "2024-" ++ (0xC3 ∷ 0xA9 ∷ ascii ")"))) (illegal R.BadTimestamp 0 7))
     ∷ (row (lex_number (ascii "+inf")) (whole K.Float 4))
-    ∷ (row (lex_number (ascii "-infx")) (illegal 17 0 1))
-    ∷ (row (lex_number (ascii "+1")) (illegal 16 0 1))
+    ∷ (row (lex_number (ascii "-infx")) (illegal R.MinusWithoutDigit 0 1))
+    ∷ (row (lex_number (ascii "+1")) (illegal R.PlusWithoutInf 0 1))
     -- a line comment
     ∷ (row (lex_line_comment (ascii "# a\n")) (whole K.Comment 3))
     -- a closed comment
     ∷ (block Strict (ascii "/***/a") (whole K.Comment 5) [])
     -- an open comment that ends in a character, strict
-    ∷ (block Strict (ascii "/*" ++ (0xC3 ∷ 0xA9 ∷ [])) (illegal 2 0 4) [])
+    ∷ (block Strict (ascii "/*" ++ (0xC3 ∷ 0xA9 ∷ [])) (illegal R.OpenBlockComment 0 4) [])
     -- `/*` strict
-    ∷ (block Strict (ascii "/*") (illegal 2 0 2) [])
+    ∷ (block Strict (ascii "/*") (illegal R.OpenBlockComment 0 2) [])
     ∷ (row (lex_ident (ascii "null ")) (whole K.Null 4))
     ∷ (row (lex_ident (ascii "a.b_1")) (whole K.Ident 5))
     ∷ (row (lex_directive (ascii "@dataset")) (whole K.AtDataset 8))
     ∷ (row (lex_directive (ascii "@x")) (extent K.AtDirective 2 1 1 0))
     -- `@` alone
-    ∷ (row (lex_directive (ascii "@ ")) (illegal 15 0 1))
+    ∷ (row (lex_directive (ascii "@ ")) (illegal R.AtWithoutName 0 1))
     -- an empty literal
     ∷ (bytes Strict 0 (ascii "b\"\"") (extent K.Bytes 3 3 0 0) [])
     -- over the limit inside a character
-    ∷ (bytes Strict 0 (ascii "b\"aaa" ++ (0xC3 ∷ 0xA9 ∷ ascii "\"")) (illegal 13 0 7) [])
+    ∷ (bytes Strict 0 (ascii "b\"aaa" ++ (0xC3 ∷ 0xA9 ∷ ascii "\"")) (illegal R.BytesOverLimit 0 7) [])
     -- a newline, strict
-    ∷ (bytes Strict 9 (ascii "b\"A\n") (illegal 14 0 3) [])
+    ∷ (bytes Strict 9 (ascii "b\"A\n") (illegal R.OpenBytes 0 3) [])
     -- a newline, tolerant
-    ∷ (bytes Tolerant 9 (ascii "b\"A\n") (extent K.Bytes 3 2 1 1) (note_at_start 20 ∷ []))
+    ∷ (bytes Tolerant 9 (ascii "b\"A\n") (extent K.Bytes 3 2 1 1) (note_at_start R.BytesEndedAtNewline ∷ []))
     -- open, tolerant
-    ∷ (bytes Tolerant 9 (ascii "b\"") (extent K.Bytes 2 2 0 1) (note_at_start 14 ∷ []))
+    ∷ (bytes Tolerant 9 (ascii "b\"") (extent K.Bytes 2 2 0 1) (note_at_start R.OpenBytes ∷ []))
     -- U+1F600
-    ∷ (row (lex_other (0xF0 ∷ 0x9F ∷ 0x98 ∷ 0x80 ∷ [])) (illegal 1 128512 4))
+    ∷ (row (lex_other (0xF0 ∷ 0x9F ∷ 0x98 ∷ 0x80 ∷ [])) (illegal R.UnexpectedCharacter 128512 4))
     ∷ []
 
 worked : map (λ (c : Case). c.found) cases ≡ map (λ (c : Case). c.want) cases

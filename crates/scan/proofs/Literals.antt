@@ -12,8 +12,8 @@ use Rattle.base.specs.Choice.{pick}
 use Rattle.base.specs.Bytes.{byte}
 use Rattle.base.proofs.Tests.{pick_case}
 use Rattle.token.specs.Kind.{kind_number}
-use Rattle.token.specs.Reason as reasons
 use Rattle.token.specs.declared.kind.TokenKind.TheVariants as K
+use Rattle.token.specs.declared.reason.Reason.TheVariants as R
 use Rattle.lexeme.specs.Lexeme.{Note}
 use Rattle.lexeme.specs.declared.Mode.{Mode}
 use Rattle.lexeme.specs.declared.Mode.TheVariants.{Strict, Tolerant}
@@ -39,7 +39,7 @@ module _ (s : List ℕ) where
       (omega arith)
 
   open_scanned : (m : Mode) (n : ℕ) → Ends s (n + 2) → Scanned s (open_bytes_literal m n)
-  open_scanned Strict n e = illegal_scanned s (n + 2) e reasons.open_bytes 0 (omega arith) (omega arith)
+  open_scanned Strict n e = illegal_scanned s (n + 2) e R.OpenBytes 0 (λ q. cc) (omega arith)
   open_scanned Tolerant n e = value_scanned (n + 2) n 1 (omega arith) (omega arith) e
 
   module _ (h : 2 ≤ length s) where
@@ -51,7 +51,7 @@ module _ (s : List ℕ) where
           inside = char_end_le s (n + 2) (omega arith);
           between = char_end_boundary s (n + 2) (omega arith);
         })
-        reasons.bytes_over_limit 0 (omega arith) (omega arith)
+        R.BytesOverLimit 0 (λ q. cc) (omega arith)
     stop_scanned m (stop.Closed n) l =
         let one : n + 2 + 1 ≡ n + 3 = omega arith in
         let q = l.0 in

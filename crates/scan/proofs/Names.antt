@@ -14,8 +14,8 @@ use Rattle.base.proofs.Reaches.{reach_ge, reach_le, reach_one}
 use Rattle.base.proofs.Tests.{pick_case, in_text}
 use Rattle.token.specs.Kind.{kind_number}
 use Rattle.token.specs.Helpers.{Flat}
-use Rattle.token.specs.Reason as reasons
 use Rattle.token.specs.declared.kind.TokenKind.TheVariants as K
+use Rattle.token.specs.declared.reason.Reason.TheVariants as R
 use Rattle.utf8.proofs.Boundaries.{ascii_boundary}
 use Rattle.scan.specs.Run.{in_name}
 use Rattle.scan.specs.Name.{true_word, false_word, null_word, type_word, dataset_word, proto_word, name_kind, lex_ident, directive, lex_directive}
@@ -77,7 +77,7 @@ directive_on_line s a =
     pick_case (OnLine s) (eqb n 1)
     (λ e. record {
       scanned =
-          illegal_scanned s 1 (record { some = omega arith; inside = omega arith; between = b }) reasons.at_without_name 0 (omega arith) (omega arith);
+          illegal_scanned s 1 (record { some = omega arith; inside = omega arith; between = b }) R.AtWithoutName 0 (λ q. cc) (omega arith);
       flat = f;
     })
     (λ e. named_on_line (take (n - 1) (drop 1 s)) s n

@@ -20,9 +20,10 @@ use Rattle.base.proofs.Walks.{past_ge}
 use Rattle.base.proofs.Tests.{and_left, and_right, or_case, pick_case, true_false, in_text, no_digit}
 use Rattle.token.specs.Kind.{kind_number}
 use Rattle.token.specs.Helpers.{Flat}
-use Rattle.token.specs.Reason as reasons
 use Rattle.token.specs.declared.kind.TokenKind.TheVariants as K
 use Rattle.token.specs.declared.kind.TokenKind.{TokenKind}
+use Rattle.token.specs.declared.reason.Reason.{Reason}
+use Rattle.token.specs.declared.reason.Reason.TheVariants as R
 use Rattle.lexeme.specs.Lexeme.{illegal, precise}
 use Rattle.lexeme.proofs.Within.{extent_within, illegal_within, precise_within, duration_within}
 use Rattle.go_duration.specs.Parse.{unsigned, parse_of}
@@ -99,7 +100,7 @@ module _ (s : List ℕ) where
 
   precise_scanned : (k : TokenKind) (e n : ℕ) → Plain k → e + 1 ≤ n → Ends s n → Scanned s (precise k e n)
   precise_scanned k e n p h g =
-      plain_scanned p (precise_within s k e n (omega arith) g.inside) g.between (no_stamp p.not_timestamp (omega arith))
+      plain_scanned p (precise_within s k e n (omega arith) g.inside) g.between (no_stamp p.not_timestamp (λ q. cc))
 
   -- a number that ends at e, before its precision
   precision_on_line : (k : TokenKind) (e : ℕ) → Plain k → 0 < e → Goes s 0 e → OnLine s (lex_precision k s e)
@@ -142,9 +143,9 @@ module _ (s : List ℕ) where
           not_string = λ q. absurd (omega (arith, ap kind_number q));
           boundary = g.between;
           duration = λ q. record { value = e; first = begun; no_plus = sent.0; not_zero = sent.1 };
-          timestamp = no_stamp (λ q. absurd (omega (arith, ap kind_number q))) (omega arith);
+          timestamp = no_stamp (λ q. absurd (omega (arith, ap kind_number q))) (λ q. cc);
         }
-    duration_run None e g = illegal_scanned s n g reasons.bad_duration 0 (omega arith) (omega arith)
+    duration_run None e g = illegal_scanned s n g R.BadDuration 0 (λ q. cc) (omega arith)
 
   duration_flat : (p : Option ℤ) (n : ℕ) → Flat s n → Flat s (duration_by p n).len
   duration_flat (Some z) n f = f
@@ -175,11 +176,11 @@ module _ (s : List ℕ) where
         not_string = λ q. absurd (omega (arith, ap kind_number q));
         boundary = e.between;
         duration = λ q. absurd (omega (arith, ap kind_number q));
-        timestamp = record { date = λ _. ap is_date d; none = λ q. absurd (omega arith) };
+        timestamp = record { date = λ _. ap is_date d; none = λ q. cc };
       }
   run_scanned None n d e =
       plain_scanned (plain K.Illegal refl)
-      (illegal_within s reasons.bad_timestamp 0 n 0 e.some e.inside (omega arith) (omega arith) (λ _. omega arith)) e.between
+      (illegal_within s R.BadTimestamp 0 n 0 e.some e.inside (omega arith) (λ _. omega arith)) e.between
       (record { date = λ q. absurd (omega arith); none = λ _. ap is_date d })
 
   run_flat : (r : Option Instant) (n : ℕ) → Flat s n → Flat s (timestamp_by r n).len
@@ -227,7 +228,7 @@ module _ (s : List ℕ) where
         (goes_then s (goes_over s 110 (omega arith) (omega arith) 2 (and_right x y two))
         (goes_over s 102 (omega arith) (omega arith) 3 (and_right (x && y) z word))))
 
-    sign_on_line : (reason : ℕ) → reason ≤ reasons.bad_duration → OnLine s (illegal reason 0 1)
+    sign_on_line : (reason : Reason) → (reason ≡ R.BadTimestamp → ⊥) → OnLine s (illegal reason 0 1)
     sign_on_line reason h = record { scanned = illegal_scanned s 1 (ends_at 1 (omega arith) sign) reason 0 h (omega arith); flat = sign.flat (flat_none s) }
 
   -- the byte at the front is a sign or a digit
@@ -240,8 +241,8 @@ module _ (s : List ℕ) where
       pick_case (OnLine s) (is_sign (byte s 0) && at_inf s)
       (λ q. let g = inf_goes (and_left (is_sign (byte s 0)) (at_inf s) q) (and_right (is_sign (byte s 0)) (at_inf s) q) in
       record { scanned = whole_scanned s 4 (ends_at 4 (omega arith) g) K.Float float; flat = g.flat (flat_none s) })
-      (λ _. pick_case (OnLine s) p (λ q. sign_on_line (rw q) reasons.plus_without_inf (omega arith))
-      (λ q. pick_case (OnLine s) (m && not d) (λ r. sign_on_line (rw (q, and_left m (not d) r)) reasons.minus_without_digit (omega arith))
+      (λ _. pick_case (OnLine s) p (λ q. sign_on_line (rw q) R.PlusWithoutInf (λ t. cc))
+      (λ q. pick_case (OnLine s) (m && not d) (λ r. sign_on_line (rw (q, and_left m (not d) r)) R.MinusWithoutDigit (λ t. cc))
       (λ r. go m refl q r)))
     where
       go : (x : Bool) → eqb (byte s 0) 45 ≡ x → eqb (byte s 0) 43 ≡ false → x && not (is_digit (byte s 1)) ≡ false → OnLine s (lex_digits s (pick x 1 0))

@@ -3,7 +3,7 @@ use mathlib.Core.List.{List}
 use Prim.Native.Nat.{ℕ, ◌<◌}
 use native.Mathlib.Omega.{arith}
 use lib.ListN.{length}
-use Rattle.token.specs.Reason as reasons
+use Rattle.token.specs.declared.reason.Reason.TheVariants as R
 use Rattle.utf8.specs.Check.{char_end}
 use Rattle.utf8.specs.Character.{code_of}
 use Rattle.scan.specs.Other.{lex_other}
@@ -16,4 +16,4 @@ unfolding lex_other
 other_scanned s h =
     illegal_scanned s (char_end s 1)
     (record { some = omega (arith, char_end_ge s 1); inside = char_end_le s 1 h; between = char_end_boundary s 1 h })
-    reasons.unexpected_character (code_of s) (omega arith) (code_small s)
+    R.UnexpectedCharacter (code_of s) (λ q. cc) (code_small s)

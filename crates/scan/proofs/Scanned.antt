@@ -1,5 +1,5 @@
 -- What the crate above, `lexer`, is told of each token where a byte is left: it is within the text, no Eof and no String, it ends between characters
--- where it starts so, a Duration's run is one that `parse` accepts, and a timestamp's is a date or, with reason 21, none. By the makers of lexemes. Assumes
+-- where it starts so, a Duration's run is one that `parse` accepts, and a timestamp's is a date or, with its reason, none. By the makers of lexemes. Assumes
 -- nothing.
 use mathlib.Core.Path.{◌≡◌, refl, ap, sym, ◌∙◌}
 use mathlib.Core.Bool.{Bool, true, false, ◌||◌}
@@ -8,15 +8,16 @@ use Prim.Native.Nat.{ℕ, ◌+◌, ◌≤◌, ◌<◌}
 use native.Mathlib.Omega.{arith}
 use lib.Dec.{eqb}
 use lib.ListN.{length, take}
-use Rattle.std.proofs.Common.{Some}
+use Rattle.std.proofs.Common.{Option, Some}
 use Rattle.base.specs.Bytes.{byte, same_bytes}
 use Rattle.base.specs.Classes.{is_digit}
 use Rattle.base.proofs.Tests.{true_false}
 use Rattle.token.specs.Kind.{kind_number, timestamp_number, is_eof, is_string}
 use Rattle.token.specs.Helpers.{is_timestamp, is_duration, Flat}
-use Rattle.token.specs.Reason.{bad_duration, bad_timestamp}
 use Rattle.token.specs.declared.kind.TokenKind.TheVariants as K
 use Rattle.token.specs.declared.kind.TokenKind.{TokenKind}
+use Rattle.token.specs.declared.reason.Reason.{Reason}
+use Rattle.token.specs.declared.reason.Reason.TheVariants as R
 use Rattle.token.proofs.KindNumbers.{number_kind_lem}
 use Rattle.lexeme.specs.Lexeme.{extent, whole, illegal}
 use Rattle.lexeme.specs.declared.Lexeme.{Lexeme}
@@ -55,14 +56,15 @@ pub record DurationRun (s : List ℕ) (r : Lexeme) : Type 0 where
   pub no_plus : byte (take r.len s) 0 ≡ 43 → ⊥
   pub not_zero : same_bytes (unsigned (take r.len s)) (48 ∷ []) ≡ false
 
--- the run of a token of the kind and reason: a Timestamp's is a date, one with reason 21 is none
-pub record StampRun (k : TokenKind) (reason : ℕ) (run : List ℕ) : Type 0 where
+-- the run of a token of the kind and reason: a Timestamp's is a date, a bad timestamp's is none
+pub record StampRun (k : TokenKind) (reason : Option Reason) (run : List ℕ) : Type 0 where
   pub date : kind_number k ≡ timestamp_number → is_date (date_of run) ≡ true
-  pub none : reason ≡ bad_timestamp → is_date (date_of run) ≡ false
+  pub none : reason ≡ Some R.BadTimestamp → is_date (date_of run) ≡ false
 
 -- of another kind and another reason nothing is said
-pub no_stamp : {k : TokenKind} {reason : ℕ} {run : List ℕ} → (k ≡ K.Timestamp → ⊥) → reason ≤ bad_duration → StampRun k reason run
-no_stamp {k} f h = record { date = λ q. absurd (f (number_kind_lem k timestamp_number q)); none = λ q. absurd (omega arith) }
+pub no_stamp : {k : TokenKind} {reason : Option Reason} {run : List ℕ} → (k ≡ K.Timestamp → ⊥) → (reason ≡ Some R.BadTimestamp → ⊥)
+    → StampRun k reason run
+no_stamp {k} f h = record { date = λ q. absurd (f (number_kind_lem k timestamp_number q)); none = λ q. absurd (h q) }
 
 pub record Scanned (s : List ℕ) (r : Lexeme) : Type 0 where
   pub within : Within s r
@@ -100,14 +102,14 @@ plain_scanned p w b t =
 module _ (s : List ℕ) (n : ℕ) (e : Ends s n) where
   pub extent_scanned : (k : TokenKind) (v size reports : ℕ) → Plain k → v + size ≤ n → reports ≤ n → Scanned s (extent k n v size reports)
   extent_scanned k v size reports p i j =
-      plain_scanned p (extent_within s k n e.some e.inside v size reports i j) e.between (no_stamp p.not_timestamp (omega arith))
+      plain_scanned p (extent_within s k n e.some e.inside v size reports i j) e.between (no_stamp p.not_timestamp (λ q. cc))
 
   pub whole_scanned : (k : TokenKind) → Plain k → Scanned s (whole k n)
   whole_scanned k p = extent_scanned k 0 n 0 p (omega arith) (omega arith)
 
-  pub illegal_scanned : (reason detail : ℕ) → reason ≤ bad_duration → detail < 0x200000 → Scanned s (illegal reason detail n)
+  pub illegal_scanned : (reason : Reason) (detail : ℕ) → (reason ≡ R.BadTimestamp → ⊥) → detail < 0x200000 → Scanned s (illegal reason detail n)
   unfolding kind_number
   illegal_scanned reason detail i j =
       let p = plain K.Illegal refl in
-      plain_scanned p (illegal_within s reason detail n 0 e.some e.inside (omega arith) (omega arith) (λ _. j)) e.between
-      (no_stamp p.not_timestamp i)
+      plain_scanned p (illegal_within s reason detail n 0 e.some e.inside (omega arith) (λ _. j)) e.between
+      (no_stamp p.not_timestamp (λ q. i (cc)))

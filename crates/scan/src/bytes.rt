@@ -5,7 +5,7 @@ ghost use Rattle.scan.specs.Helpers.{stop_reason};
 
 use lexeme::{Lexeme, Mode};
 use token::kind::TokenKind;
-use token::reason;
+use token::reason::Reason;
 use utf8::check::char_end;
 
 // Where a bytes literal stops, so many bytes after its opening quote.
@@ -58,7 +58,7 @@ fn open_bytes(mode: Mode, n: usize) -> Lexeme
     ensures { result ≡ open_bytes_literal mode n }
 {
     match mode {
-        Mode::Strict => Lexeme::illegal(reason::OPEN_BYTES, 0, n + 2),
+        Mode::Strict => Lexeme::illegal(Reason::OpenBytes, 0, n + 2),
         Mode::Tolerant => bytes_value(n + 2, n, 1),
     }
 }
@@ -68,22 +68,21 @@ pub fn lex_bytes(s: &[u8], mode: Mode, limit: usize) -> Lexeme
     ensures { result ≡ lex_bytes mode limit s.now }
 {
     match bytes_stop(s, limit) {
-        Stop::Over(n) => Lexeme::illegal(reason::BYTES_OVER_LIMIT, 0, char_end(s, n + 2)),
+        Stop::Over(n) => Lexeme::illegal(Reason::BytesOverLimit, 0, char_end(s, n + 2)),
         Stop::Closed(n) => bytes_value(n + 3, n, 0),
         Stop::Newline(n) => open_bytes(mode, n),
         Stop::Open(n) => open_bytes(mode, n),
     }
 }
 
-// The reason of the report that the tolerant reader makes of the literal at the front of `s`, or none.
-pub fn bytes_reason(s: &[u8], limit: usize) -> usize
+// The reason of the report that the tolerant reader makes of the literal at the front of `s`.
+#[tactic(auto, unfolding(crate::specs::Helpers::stop_reason))]
+pub fn bytes_reason(s: &[u8], limit: usize) -> Option<Reason>
     ensures { result ≡ stop_reason (bytes_stop limit 0 (drop 2 s.now)) }
 {
-    let stop = bytes_stop(s, limit);
-    match stop {
-        Stop::Over(_) => reason::NONE,
-        Stop::Closed(_) => reason::NONE,
-        Stop::Newline(_) => reason::BYTES_ENDED_AT_NEWLINE,
-        Stop::Open(_) => reason::OPEN_BYTES,
+    match bytes_stop(s, limit) {
+        Stop::Over(_) | Stop::Closed(_) => None,
+        Stop::Newline(_) => Some(Reason::BytesEndedAtNewline),
+        Stop::Open(_) => Some(Reason::OpenBytes),
     }
 }

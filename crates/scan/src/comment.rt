@@ -6,7 +6,7 @@ use crate::run::{Body, Line};
 use base::runs::reach_long;
 use lexeme::{Lexeme, Mode};
 use token::kind::TokenKind;
-use token::reason;
+use token::reason::Reason;
 use utf8::check::char_end;
 
 // A comment that begins with `#` or `//`.
@@ -31,7 +31,7 @@ fn open_comment(s: &[u8], mode: Mode) -> Lexeme
     ensures { result ≡ open_comment mode s.now }
 {
     match mode {
-        Mode::Strict => Lexeme::illegal(reason::OPEN_BLOCK_COMMENT, 0, open_end(s)),
+        Mode::Strict => Lexeme::illegal(Reason::OpenBlockComment, 0, open_end(s)),
         Mode::Tolerant => Lexeme::extent(TokenKind::Comment, s.len(), 0, s.len(), 1),
     }
 }

@@ -7,7 +7,7 @@ use crate::run::Name;
 use base::runs::reach_run;
 use lexeme::Lexeme;
 use token::kind::TokenKind;
-use token::reason;
+use token::reason::Reason;
 
 // Whether a name is a word.
 fn is_word(name: &[u8], word: &[u8]) -> bool
@@ -61,7 +61,7 @@ pub fn lex_directive(s: &[u8]) -> Lexeme
 {
     let n = reach_run(Name, s, 1);
     if n == 1 {
-        return Lexeme::illegal(reason::AT_WITHOUT_NAME, 0, 1);
+        return Lexeme::illegal(Reason::AtWithoutName, 0, 1);
     }
     directive(&s[1..n], n)
 }

@@ -11,7 +11,7 @@ use base::runs::reach_run;
 use go_duration::parse::parse;
 use lexeme::Lexeme;
 use token::kind::TokenKind;
-use token::reason;
+use token::reason::Reason;
 
 // A number that ends at `end`, with the precision that follows it or none.
 fn lex_precision(kind: TokenKind, s: &[u8], end: usize) -> Lexeme
@@ -89,7 +89,7 @@ fn lex_duration(s: &[u8], f: usize) -> Lexeme
     let len = past_units(s, f);
     match parse(&s[..len]) {
         Some(nanos) => Lexeme::duration(len, nanos),
-        None => Lexeme::illegal(reason::BAD_DURATION, 0, len),
+        None => Lexeme::illegal(Reason::BadDuration, 0, len),
     }
 }
 
@@ -143,7 +143,7 @@ fn lex_timestamp(s: &[u8], n: usize) -> Lexeme
     let len = reach_run(Stamp, s, n);
     match rfc3339::parse::parse(&s[..len]) {
         Some(_) => Lexeme::whole(TokenKind::Timestamp, len),
-        None => Lexeme::illegal(reason::BAD_TIMESTAMP, 0, len),
+        None => Lexeme::illegal(Reason::BadTimestamp, 0, len),
     }
 }
 
@@ -178,10 +178,10 @@ pub fn lex_number(s: &[u8]) -> Lexeme
             return Lexeme::whole(TokenKind::Float, 4);
         }
         if a == b'+' {
-            return Lexeme::illegal(reason::PLUS_WITHOUT_INF, 0, 1);
+            return Lexeme::illegal(Reason::PlusWithoutInf, 0, 1);
         }
         if !is_digit(peek(s, 1)) {
-            return Lexeme::illegal(reason::MINUS_WITHOUT_DIGIT, 0, 1);
+            return Lexeme::illegal(Reason::MinusWithoutDigit, 0, 1);
         }
     }
     lex_digits(s, sign as usize)

@@ -3,7 +3,7 @@ ghost use Rattle.std.specs.Prelude.{◌≡◌};
 ghost use Rattle.scan.specs.Other.{lex_other};
 
 use lexeme::Lexeme;
-use token::reason;
+use token::reason::Reason;
 use utf8::character::decode;
 use utf8::check::char_end;
 
@@ -12,5 +12,5 @@ pub fn lex_other(s: &[u8]) -> Lexeme
     ensures { result ≡ lex_other s.now }
 {
     let code = decode(s).map_or(0, |found| found.code);
-    Lexeme::illegal(reason::UNEXPECTED_CHARACTER, code as usize, char_end(s, 1))
+    Lexeme::illegal(Reason::UnexpectedCharacter, code as usize, char_end(s, 1))
 }

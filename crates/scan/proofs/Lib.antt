@@ -1,6 +1,8 @@
 mod Flats
 mod Runs
 mod Stops
+mod Parts
+mod Spelled
 mod Goes
 pub mod Scanned
 pub mod Comments

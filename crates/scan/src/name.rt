@@ -1,6 +1,5 @@
 // Names and directives.
-ghost use Rattle.std.specs.Prelude.{◌≡◌, ◌≤◌, length};
-ghost use Rattle.base.specs.Bytes.{same_bytes};
+ghost use Rattle.std.specs.Prelude.{◌≡◌, ◌+◌, length};
 ghost use Rattle.scan.specs.Name.{name_kind, lex_ident, directive, lex_directive};
 
 use crate::run::Name;
@@ -9,27 +8,20 @@ use lexeme::Lexeme;
 use token::kind::TokenKind;
 use token::reason::Reason;
 
-// Whether a name is a word.
-fn is_word(name: &[u8], word: &[u8]) -> bool
-    ensures { result ≡ same_bytes name.now word.now }
-{
-    name == word
-}
-
 // What a name is.
+#[tactic(auto, using(std::proofs::lemmas::Bool::Decides::nat_tests, crate::proofs::Spelled::same_by), unfolding(crate::specs::Name::name_kind))]
 fn name_kind(name: &[u8]) -> TokenKind
     ensures { result ≡ name_kind name.now }
 {
-    if is_word(name, b"true") | is_word(name, b"false") {
-        return TokenKind::Bool;
+    match name {
+        b"true" | b"false" => TokenKind::Bool,
+        b"null" => TokenKind::Null,
+        _ => TokenKind::Ident,
     }
-    if is_word(name, b"null") {
-        return TokenKind::Null;
-    }
-    TokenKind::Ident
 }
 
 // A name, or one of the words `true`, `false` and `null`.
+#[tactic(auto, using(crate::proofs::Parts::reach_size), unfolding(crate::specs::Name::lex_ident))]
 pub fn lex_ident(s: &[u8]) -> Lexeme
     ensures { result ≡ lex_ident s.now }
 {
@@ -37,31 +29,29 @@ pub fn lex_ident(s: &[u8]) -> Lexeme
     Lexeme::whole(name_kind(&s[..n]), n)
 }
 
-// The directive of a name, of `n` bytes with its `@`.
-fn directive(name: &[u8], n: usize) -> Lexeme
-    requires { 1 ≤ n }
-    ensures { result ≡ directive name.now n }
+// The directive of a name, which stands after its `@`.
+#[tactic(auto, using(std::proofs::lemmas::Bool::Decides::nat_tests, crate::proofs::Spelled::same_by), unfolding(crate::specs::Name::directive))]
+fn directive(name: &[u8]) -> Lexeme
+    ensures { result ≡ directive name.now (length name.now + 1) }
 {
-    if is_word(name, b"type") {
-        return Lexeme::whole(TokenKind::AtType, n);
+    let len = name.len() + 1;
+    let other = Lexeme::extent(TokenKind::AtDirective, len, 1, name.len(), 0);
+    match name {
+        b"type" => Lexeme::whole(TokenKind::AtType, len),
+        b"dataset" => Lexeme::whole(TokenKind::AtDataset, len),
+        b"proto" => Lexeme::whole(TokenKind::AtProto, len),
+        _ => other,
     }
-    if is_word(name, b"dataset") {
-        return Lexeme::whole(TokenKind::AtDataset, n);
-    }
-    if is_word(name, b"proto") {
-        return Lexeme::whole(TokenKind::AtProto, n);
-    }
-    Lexeme::extent(TokenKind::AtDirective, n, 1, n - 1, 0)
 }
 
 // What begins with `@`.
+#[tactic(auto, using(base::proofs::Reaches::reach_ge, base::proofs::Reaches::reach_le, base::proofs::Reaches::reach_end), unfolding(crate::specs::Name::lex_directive))]
 pub fn lex_directive(s: &[u8]) -> Lexeme
-    requires { 1 ≤ length s.now }
     ensures { result ≡ lex_directive s.now }
 {
     let n = reach_run(Name, s, 1);
     if n == 1 {
         return Lexeme::illegal(Reason::AtWithoutName, 0, 1);
     }
-    directive(&s[1..n], n)
+    directive(&s[1..n])
 }

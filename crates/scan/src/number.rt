@@ -1,11 +1,15 @@
-// Numbers, timestamps and durations.
-ghost use Rattle.std.specs.Prelude.{◌≡◌, ◌+◌, ◌≤◌, length};
-ghost use Rattle.scan.specs.Number.{lex_precision, past_point, past_sign, past_exponent, past_fraction, at_duration_unit, lex_duration};
-ghost use Rattle.scan.specs.Number.{goes_on_float, number_kind, value_end, lex_tail, lex_timestamp, lex_digits, at_inf, lex_number};
+// Numbers, timestamps and durations. An offset counts from the token's first byte, as the definitions and `pos` of lexer.rs do: a slice for each part
+// would need its length added again. No function asks that one is within the text, since past its end no test of a byte passes.
+ghost use Rattle.std.specs.Prelude.{◌≡◌, ◌+◌, length};
+ghost use Rattle.base.specs.Bytes.{byte};
+ghost use Rattle.go_duration.specs.Parse.{parse_of};
+ghost use Rattle.rfc3339.specs.Instant.{date_of};
+ghost use Rattle.scan.specs.Number.{lex_precision, past_point, past_sign, past_exponent, past_fraction, at_duration_unit, duration_by};
+ghost use Rattle.scan.specs.Number.{goes_on_float, number_kind, value_end, lex_tail, timestamp_by, lex_digits, at_inf, lex_number};
 
 use crate::run::{Stamp, past_units};
 use base::class::{begins_unit, is_digit, is_ident_part};
-use base::digits::Digits;
+use base::digits::digits_end;
 use base::peek;
 use base::runs::reach_run;
 use go_duration::parse::parse;
@@ -14,82 +18,79 @@ use token::kind::TokenKind;
 use token::reason::Reason;
 
 // A number that ends at `end`, with the precision that follows it or none.
+#[tactic(auto, using(base::proofs::Reaches::reach_ge), unfolding(crate::specs::Number::lex_precision))]
 fn lex_precision(kind: TokenKind, s: &[u8], end: usize) -> Lexeme
-    requires { end ≤ length s.now }
     ensures { result ≡ lex_precision kind s.now end }
 {
-    if peek(s, end) == b'p' {
-        if is_digit(peek(s, end + 1)) {
-            return Lexeme::precise(kind, end, reach_run(Digits, s, end + 1));
-        }
+    if peek(s, end) == b'p' && is_digit(peek(s, end + 1)) {
+        Lexeme::precise(kind, end, digits_end(s, end + 1))
+    } else {
+        Lexeme::whole(kind, end)
     }
-    Lexeme::whole(kind, end)
 }
 
 // Past a point and digits or none.
+#[tactic(auto, unfolding(crate::specs::Number::past_point))]
 fn past_point(s: &[u8], i: usize) -> usize
-    requires { i ≤ length s.now }
     ensures { result ≡ past_point s.now i }
 {
     if peek(s, i) == b'.' {
-        return reach_run(Digits, s, i + 1);
+        digits_end(s, i + 1)
+    } else {
+        i
     }
-    i
 }
 
 // Past a sign or nothing.
+#[tactic(auto, unfolding(crate::specs::Number::past_sign))]
 fn past_sign(s: &[u8], i: usize) -> usize
-    requires { i ≤ length s.now + 1 }
     ensures { result ≡ past_sign s.now i }
 {
     let b = peek(s, i);
-    if (b == b'+') | (b == b'-') {
-        return i + 1;
-    }
-    i
+    if (b == b'+') | (b == b'-') { i + 1 } else { i }
 }
 
 // Past an exponent or nothing.
+#[tactic(auto, unfolding(crate::specs::Number::past_exponent))]
 fn past_exponent(s: &[u8], i: usize) -> usize
-    requires { i ≤ length s.now }
     ensures { result ≡ past_exponent s.now i }
 {
     let b = peek(s, i);
     if (b == b'e') | (b == b'E') {
-        return reach_run(Digits, s, past_sign(s, i + 1));
+        digits_end(s, past_sign(s, i + 1))
+    } else {
+        i
     }
-    i
 }
 
 // Past a point and at least one digit, or nothing.
+#[tactic(auto, using(crate::proofs::Parts::from_second), unfolding(crate::specs::Number::past_fraction))]
 fn past_fraction(s: &[u8], i: usize) -> usize
-    requires { i ≤ length s.now }
     ensures { result ≡ past_fraction s.now i }
 {
-    if peek(s, i) == b'.' {
-        if is_digit(peek(s, i + 1)) {
-            return reach_run(Digits, s, i + 2);
-        }
+    if peek(s, i) == b'.' && is_digit(peek(s, i + 1)) {
+        digits_end(s, i + 2)
+    } else {
+        i
     }
-    i
 }
 
-// Whether the byte `a`, with `b` after it, begins a unit.
-fn at_duration_unit(a: u8, b: u8) -> bool
-    ensures { result ≡ at_duration_unit a b }
+// Whether a unit begins at `f`, `µs` with U+00B5 too.
+#[tactic(auto, using(crate::proofs::Parts::by_first, crate::proofs::Parts::unit_in))]
+fn at_duration_unit(s: &[u8], f: usize) -> bool
+    ensures { result ≡ at_duration_unit (byte s.now f) (byte s.now (f + 1)) }
 {
-    begins_unit(a) & ((a != 0xC2) | (b == 0xB5))
+    let a = peek(s, f);
+    begins_unit(a) && ((a != 0xC2) | (peek(s, f + 1) == 0xB5))
 }
 
-// A duration whose first unit begins at `f`.
-fn lex_duration(s: &[u8], f: usize) -> Lexeme
-    requires { f ≤ length s.now }
-    ensures { result ≡ lex_duration s.now f }
+// The duration that a run of units is.
+fn duration_of(run: &[u8]) -> Lexeme
+    ensures { result ≡ duration_by (parse_of run.now) (length run.now) }
 {
-    let len = past_units(s, f);
-    match parse(&s[..len]) {
-        Some(nanos) => Lexeme::duration(len, nanos),
-        None => Lexeme::illegal(Reason::BadDuration, 0, len),
+    match parse(run) {
+        Some(nanos) => Lexeme::duration(run.len(), nanos),
+        None => Lexeme::illegal(Reason::BadDuration, 0, run.len()),
     }
 }
 
@@ -105,61 +106,60 @@ fn number_kind(float: bool) -> TokenKind
     ensures { result ≡ number_kind float }
 {
     if float {
-        return TokenKind::Float;
+        TokenKind::Float
+    } else {
+        TokenKind::Int
     }
-    TokenKind::Int
 }
 
 // Where the value of a number ends whose digits and fraction end at `f`.
+#[tactic(auto, unfolding(crate::specs::Number::value_end))]
 fn value_end(s: &[u8], f: usize, float: bool) -> usize
-    requires { f ≤ length s.now }
     ensures { result ≡ value_end s.now f float }
 {
     if float {
-        return past_exponent(s, past_point(s, f));
+        past_exponent(s, past_point(s, f))
+    } else {
+        f
     }
-    f
 }
 
 // A number whose digits end at `n` and whose fraction ends at `f`.
+#[tactic(auto, using(crate::proofs::Parts::past_size, crate::proofs::Parts::by_first, crate::proofs::Parts::unit_in), unfolding(crate::specs::Number::lex_tail, crate::specs::Number::lex_duration))]
 fn lex_tail(s: &[u8], n: usize, f: usize) -> Lexeme
-    requires { f ≤ length s.now }
     ensures { result ≡ lex_tail s.now n f }
 {
-    let b = peek(s, f);
-    if at_duration_unit(b, peek(s, f + 1)) {
-        return lex_duration(s, f);
+    if at_duration_unit(s, f) {
+        return duration_of(&s[..past_units(s, f)]);
     }
-    let float = (n < f) | goes_on_float(b);
+    let float = (n < f) | goes_on_float(peek(s, f));
     lex_precision(number_kind(float), s, value_end(s, f, float))
 }
 
-// A timestamp whose first digits end at `n`.
-#[tactic(auto, unfolding(crate::specs::Number::lex_timestamp))]
-fn lex_timestamp(s: &[u8], n: usize) -> Lexeme
-    requires { n ≤ length s.now }
-    ensures { result ≡ lex_timestamp s.now n }
+// The timestamp that a run is.
+fn timestamp_of(run: &[u8]) -> Lexeme
+    ensures { result ≡ timestamp_by (date_of run.now) (length run.now) }
 {
-    let len = reach_run(Stamp, s, n);
-    match rfc3339::parse::parse(&s[..len]) {
-        Some(_) => Lexeme::whole(TokenKind::Timestamp, len),
-        None => Lexeme::illegal(Reason::BadTimestamp, 0, len),
+    match rfc3339::parse::parse(run) {
+        Some(_) => Lexeme::whole(TokenKind::Timestamp, run.len()),
+        None => Lexeme::illegal(Reason::BadTimestamp, 0, run.len()),
     }
 }
 
 // The digits from `at` on, and what follows them; four unsigned digits before `-` start a timestamp.
+#[tactic(auto, using(crate::proofs::Parts::stamp_size), unfolding(crate::specs::Number::lex_digits, crate::specs::Number::lex_timestamp))]
 fn lex_digits(s: &[u8], at: usize) -> Lexeme
-    requires { at ≤ length s.now }
     ensures { result ≡ lex_digits s.now at }
 {
-    let n = reach_run(Digits, s, at);
-    if (at == 0) & (n == 4) & (peek(s, n) == b'-') {
-        return lex_timestamp(s, n);
+    let n = digits_end(s, at);
+    if at == 0 && n == 4 && peek(s, n) == b'-' {
+        return timestamp_of(&s[..reach_run(Stamp, s, n)]);
     }
     lex_tail(s, n, past_fraction(s, n))
 }
 
 // Whether `inf` stands after the sign, and no name goes on from there.
+#[tactic(auto, unfolding(crate::specs::Number::at_inf))]
 fn at_inf(s: &[u8]) -> bool
     ensures { result ≡ at_inf s.now }
 {
@@ -167,8 +167,8 @@ fn at_inf(s: &[u8]) -> bool
 }
 
 // What begins with a sign or a digit.
+#[tactic(auto, unfolding(crate::specs::Number::lex_number))]
 pub fn lex_number(s: &[u8]) -> Lexeme
-    requires { 1 ≤ length s.now }
     ensures { result ≡ lex_number s.now }
 {
     let a = peek(s, 0);
@@ -184,5 +184,5 @@ pub fn lex_number(s: &[u8]) -> Lexeme
             return Lexeme::illegal(Reason::MinusWithoutDigit, 0, 1);
         }
     }
-    lex_digits(s, sign as usize)
+    lex_digits(s, usize::from(sign))
 }

@@ -80,3 +80,21 @@ module _ (limit : ℕ) (s : List ℕ) where
 
   pub stands : (r e : Stop) → r ≡ bytes_stop limit 0 (drop 2 s) → r ≡ e → Stands s e
   stands r e p q = rw (← q, p) (stands_from (length s) 2 (omega arith) (omega arith) (omega arith))
+
+-- the bytes of a literal, by where it stops
+abbrev count_of : Stop → ℕ
+count_of (stop.Over n) = n
+count_of (stop.Closed n) = n
+count_of (stop.Newline n) = n
+count_of (stop.Open n) = n
+
+-- they are in the text; `grind` takes this up where it reads the first equation's side
+pub stop_within : (limit : ℕ) (s : List ℕ)
+    → let e = bytes_stop limit 0 (drop 2 s) in (e ≡ e) × (count_of e ≤ length s)
+stop_within limit s = (refl, go (bytes_stop limit 0 (drop 2 s)) (stands limit s _ _ refl refl))
+  where
+    go : (e : Stop) → Stands s e → count_of e ≤ length s
+    go (stop.Over n) l = omega arith
+    go (stop.Closed n) l = omega arith
+    go (stop.Newline n) l = omega arith
+    go (stop.Open n) l = omega arith

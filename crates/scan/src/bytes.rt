@@ -22,6 +22,7 @@ pub enum Stop {
 }
 
 // Where the bytes literal that begins with `b"` stops.
+#[tactic(auto, using(std::proofs::lemmas::Bool::Decides::nat_tests, crate::proofs::Stops::stop_at_lem, crate::proofs::Stops::stop_last))]
 fn bytes_stop(s: &[u8], limit: usize) -> Stop
     ensures { result ≡ bytes_stop limit 0 (drop 2 s.now) }
 {
@@ -64,6 +65,7 @@ fn open_bytes(mode: Mode, n: usize) -> Lexeme
 }
 
 // A bytes literal, which begins with `b"`.
+#[tactic(auto, using(crate::proofs::Stops::stop_within), unfolding(crate::specs::Bytes::lex_bytes))]
 pub fn lex_bytes(s: &[u8], mode: Mode, limit: usize) -> Lexeme
     ensures { result ≡ lex_bytes mode limit s.now }
 {

@@ -10,6 +10,7 @@ use token::reason::Reason;
 use utf8::check::char_end;
 
 // A comment that begins with `#` or `//`.
+#[tactic(auto, unfolding(crate::specs::Comment::lex_line_comment))]
 pub fn lex_line_comment(s: &[u8]) -> Lexeme
     ensures { result ≡ lex_line_comment s.now }
 {
@@ -17,16 +18,15 @@ pub fn lex_line_comment(s: &[u8]) -> Lexeme
 }
 
 // Where strict reading stops in an open block comment.
+#[tactic(auto, unfolding(crate::specs::Comment::open_end))]
 fn open_end(s: &[u8]) -> usize
     ensures { result ≡ open_end s.now }
 {
-    if 3 <= s.len() {
-        return char_end(s, s.len() - 1);
-    }
-    char_end(s, 2)
+    char_end(s, s.len().saturating_sub(1).max(2))
 }
 
 // A block comment that the text does not close.
+#[tactic(auto, unfolding(crate::specs::Comment::open_comment))]
 fn open_comment(s: &[u8], mode: Mode) -> Lexeme
     ensures { result ≡ open_comment mode s.now }
 {
@@ -37,6 +37,7 @@ fn open_comment(s: &[u8], mode: Mode) -> Lexeme
 }
 
 // A comment that begins with `/*`.
+#[tactic(auto, unfolding(crate::specs::Comment::lex_block_comment, crate::specs::Comment::body_end))]
 pub fn lex_block_comment(s: &[u8], mode: Mode) -> Lexeme
     ensures { result ≡ lex_block_comment mode s.now }
 {

@@ -63,6 +63,7 @@ impl Run for Name {
 }
 
 impl ShortRun for Name {
+    #[tactic(auto, unfolding(base::specs::Masks::kind_test))]
     fn reach_on(self, s: &[u8], at: usize) -> usize {
         reach_kind::<NAME>(s, at)
     }
@@ -87,6 +88,7 @@ impl ShortRun for Stamp {
 }
 
 // Whether the byte `a`, with `b` after it, ends a timestamp.
+#[tactic(auto, unfolding(crate::specs::Run::ends_timestamp))]
 fn ends_timestamp(a: u8, b: u8) -> bool
     ensures { result ≡ ends_timestamp a b }
 {
@@ -108,6 +110,7 @@ impl Run for Letters {
     ghost has = { λ _. in_letters };
 
     // Most bytes of a duration are such, and two branches are quicker for them than both tests joined by `|`.
+    #[tactic(auto, using(std::proofs::lemmas::Bool::Decides::nat_tests), unfolding(base::specs::Classes::is_digit, base::specs::Classes::is_lower_alpha))]
     fn has(self, a: u8, _b: u8) -> bool {
         if a < b'a' {
             is_digit(a)

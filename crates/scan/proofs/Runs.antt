@@ -9,7 +9,7 @@ use native.Mathlib.Numerals.{add-one}
 use native.Mathlib.Omega.{arith}
 use borrow.Author.Tests.{ltb-true, ltb-false, eqb-true, ne_eqb, not-false}
 use lib.Dec.{ltb, eqb}
-use lib.ListN.{length, drop}
+use lib.ListN.{length, drop, get_or-eq_default}
 use lib.Seq.{drop-cons, get_or-drop}
 use Rattle.base.specs.Choice.{pick}
 use Rattle.base.specs.Bytes.{byte}
@@ -68,25 +68,33 @@ letters_past s (suc n) i h =
     (λ q. rw (reach_stop in_letters s i (ltb-true i (length s) p) q)))
     (λ p. rw (reach_end in_letters s i (ltb-false i (length s) p)))
 
--- the loop of `past_units` at i, which is behind letters
-pub record Behind (s : List ℕ) (at i : ℕ) : Type 0 where
-  pub same : past unit_piece s i ≡ past unit_piece s at
-  pub none : i < length s → is_digit (byte s i) || is_lower_alpha (byte s i) ≡ false
+-- for `past_units`
+pub letters_same : (s : List ℕ) (i : ℕ) → past unit_piece s (reach in_letters s i) ≡ past unit_piece s i
+letters_same s i = letters_past s (length s) i (omega arith)
 
-pub behind : (s : List ℕ) (at i j : ℕ) → past unit_piece s i ≡ past unit_piece s at → j ≡ reach in_letters s i → Behind s at j
-behind s at i j p e = rw e (record { same = letters_past s (length s) i (omega arith) ∙ p; none = λ h. reach_fails in_letters s i h })
+module _ (s : List ℕ) (i : ℕ) where
+  pub point_turn : is_digit (byte s (i + 1)) ≡ true → byte s i ≡ 46 → past unit_piece s (i + 1) ≡ past unit_piece s i
+  unfolding is_digit is_lower_alpha
+  point_turn d e = one_turn s i (in_text (λ b. eqb b 46) s i refl (rw e)) (rw (e, d))
 
--- a turn of the loop
-module _ (s : List ℕ) (at i : ℕ) (g : Behind s at i) (h : i < length s) where
-  pub point_turn : eqb (byte s i) 46 && is_digit (byte s (i + 1)) ≡ true → past unit_piece s (i + 1) ≡ past unit_piece s at
-  point_turn e = one_turn s i h (rw (g.none h) e) ∙ g.same
+  pub two_turn : byte s (i + 1) ≡ 0xB5 → byte s i ≡ 0xC2 → past unit_piece s (i + 2) ≡ past unit_piece s i
+  unfolding is_digit is_lower_alpha
+  two_turn f e = micro_turn s i (in_text (λ b. eqb b 0xC2) s i refl (rw e)) (rw e) (rw (e, f))
 
-  module _ (f : eqb (byte s i) 46 && is_digit (byte s (i + 1)) ≡ false) where
-    pub two_turn : micro s i ≡ true → past unit_piece s (i + 2) ≡ past unit_piece s at
-    two_turn e = micro_turn s i h (rw (g.none h) f) e ∙ g.same
+  pub letters_in : 0 < byte s (reach in_letters s i) → reach in_letters s i < length s
+  letters_in h =
+      let j = reach in_letters s i in
+      by_cases (ltb j (length s)) (λ q. ltb-true j (length s) q)
+      (λ q. absurd (omega (arith, get_or-eq_default s 0 (ltb-false j (length s) q))))
 
-    pub none_turn : micro s i ≡ false → i ≡ past unit_piece s at
-    none_turn e = sym (piece_stop s i h (rw (g.none h) f) e) ∙ g.same
+  pub none_turn : eqb (byte s (reach in_letters s i)) 46 && is_digit (byte s (reach in_letters s i + 1)) ≡ false
+      → micro s (reach in_letters s i) ≡ false → past unit_piece s i ≡ reach in_letters s i
+  none_turn e f =
+      let j = reach in_letters s i in
+      by_cases (ltb j (length s))
+      (λ q. let h = ltb-true j (length s) q in
+      sym (letters_same s i) ∙ piece_stop s j h (rw (reach_fails in_letters s i h) e) f)
+      (λ q. sym (letters_same s i) ∙ past_end unit_piece s j (ltb-false j (length s) q))
 
 -- ---- tests of ASCII bytes
 

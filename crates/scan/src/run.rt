@@ -6,6 +6,7 @@ ghost use Rattle.scan.specs.Helpers.{in_letters};
 
 use base::class::{is_digit, is_ident_part, is_lower_alpha, is_space};
 use base::kinds::{NAME, reach_kind};
+use base::peek;
 use base::runs::{Run, ShortRun, reach_bytes, reach_long};
 
 // The blanks between tokens.
@@ -121,21 +122,20 @@ impl Run for Letters {
 }
 
 // The end of the run of a duration's pieces that starts at `at`.
+#[tactic(auto, using(std::proofs::lemmas::Bool::Decides::nat_tests, crate::proofs::Runs::letters_same, crate::proofs::Runs::point_turn, crate::proofs::Runs::two_turn, crate::proofs::Runs::none_turn, crate::proofs::Runs::letters_in, base::proofs::Reaches::reach_ge))]
 pub fn past_units(s: &[u8], at: usize) -> usize
     ensures { result ≡ past unit_piece s.now at }
 {
-    let mut i = reach_bytes(Letters, s, at);
-    while i < s.len() {
-        let a = s[i];
-        let b = base::peek(s, i + 1);
-        if (a == b'.') & is_digit(b) {
+    let mut i = at;
+    loop {
+        i = reach_bytes(Letters, s, i);
+        let a = peek(s, i);
+        if a == b'.' && is_digit(peek(s, i + 1)) {
             i += 1;
-        } else if (a == 0xC2) & (b == 0xB5) {
+        } else if a == 0xC2 && peek(s, i + 1) == 0xB5 {
             i += 2;
         } else {
             return i;
         }
-        i = reach_bytes(Letters, s, i);
     }
-    i
 }

@@ -15,7 +15,7 @@ use Rattle.base.specs.Digits.{in_digits}
 use Rattle.base.specs.Kinds.{begins_unit}
 use Rattle.base.specs.Runs.{reach, past}
 use Rattle.base.proofs.Tests.{by_cases, in_text, no_digit}
-use Rattle.base.proofs.Reaches.{reach_le, reach_step}
+use Rattle.base.proofs.Reaches.{reach_ge, reach_le, reach_end, reach_step}
 use Rattle.base.proofs.Walks.{past_le}
 use Rattle.scan.specs.Run.{in_stamp}
 use Rattle.scan.specs.Number.{at_duration_unit}
@@ -50,3 +50,7 @@ pub stamp_size : (s : List ℕ) (n : ℕ) → byte s n ≡ 45 → length (take (
 stamp_size s n e =
     let h = in_text (λ a. eqb a 45) s n refl (eq-eqb (byte s n) 45 e) in
     reach_size in_stamp s n (omega arith)
+
+pub ruleset runs = (reach_ge, reach_le, reach_end, reach_size)
+
+pub ruleset units = (past_size, by_first, unit_in)

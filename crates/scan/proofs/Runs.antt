@@ -11,13 +11,14 @@ use borrow.Author.Tests.{ltb-true, ltb-false, eqb-true, ne_eqb, not-false}
 use lib.Dec.{ltb, eqb}
 use lib.ListN.{length, drop, get_or-eq_default}
 use lib.Seq.{drop-cons, get_or-drop}
+use Rattle.std.proofs.lemmas.Bool.Decides.{nat_tests}
 use Rattle.base.specs.Choice.{pick}
 use Rattle.base.specs.Bytes.{byte}
 use Rattle.base.specs.Classes.{is_digit, is_lower_alpha, is_ident_start, is_ident_part, is_space}
 use Rattle.base.specs.Digits.{in_digits}
 use Rattle.base.specs.Runs.{reach, past}
 use Rattle.base.proofs.Tests.{and_left, and_right, true_false, over, in_text, by_cases}
-use Rattle.base.proofs.Reaches.{reach_step, reach_stop, reach_end, reach_fails}
+use Rattle.base.proofs.Reaches.{reach_ge, reach_step, reach_stop, reach_end, reach_fails}
 use Rattle.base.proofs.Walks.{past_step, past_stop, past_end}
 use Rattle.token.specs.Helpers.{Flat}
 use Rattle.utf8.specs.Grammar.{char_size}
@@ -95,6 +96,8 @@ module _ (s : List ℕ) (i : ℕ) where
       (λ q. let h = ltb-true j (length s) q in
       sym (letters_same s i) ∙ piece_stop s j h (rw (reach_fails in_letters s i h) e) f)
       (λ q. sym (letters_same s i) ∙ past_end unit_piece s j (ltb-false j (length s) q))
+
+pub ruleset turns = (nat_tests, letters_same, letters_in, point_turn, two_turn, none_turn, reach_ge)
 
 -- ---- tests of ASCII bytes
 

@@ -21,7 +21,7 @@ fn name_kind(name: &[u8]) -> TokenKind
 }
 
 // A name, or one of the words `true`, `false` and `null`.
-#[tactic(auto, using(crate::proofs::Parts::reach_size), unfolding(crate::specs::Name::lex_ident))]
+#[tactic(auto, using(crate::proofs::Parts::runs), unfolding(crate::specs::Name::lex_ident))]
 pub fn lex_ident(s: &[u8]) -> Lexeme
     ensures { result ≡ lex_ident s.now }
 {
@@ -45,7 +45,7 @@ fn directive(name: &[u8]) -> Lexeme
 }
 
 // What begins with `@`.
-#[tactic(auto, using(base::proofs::Reaches::reach_ge, base::proofs::Reaches::reach_le, base::proofs::Reaches::reach_end), unfolding(crate::specs::Name::lex_directive))]
+#[tactic(auto, using(crate::proofs::Parts::runs), unfolding(crate::specs::Name::lex_directive))]
 pub fn lex_directive(s: &[u8]) -> Lexeme
     ensures { result ≡ lex_directive s.now }
 {

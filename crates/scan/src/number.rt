@@ -76,7 +76,7 @@ fn past_fraction(s: &[u8], i: usize) -> usize
 }
 
 // Whether a unit begins at `f`, `µs` with U+00B5 too.
-#[tactic(auto, using(crate::proofs::Parts::by_first, crate::proofs::Parts::unit_in))]
+#[tactic(auto, using(crate::proofs::Parts::units))]
 fn at_duration_unit(s: &[u8], f: usize) -> bool
     ensures { result ≡ at_duration_unit (byte s.now f) (byte s.now (f + 1)) }
 {
@@ -125,7 +125,7 @@ fn value_end(s: &[u8], f: usize, float: bool) -> usize
 }
 
 // A number whose digits end at `n` and whose fraction ends at `f`.
-#[tactic(auto, using(crate::proofs::Parts::past_size, crate::proofs::Parts::by_first, crate::proofs::Parts::unit_in), unfolding(crate::specs::Number::lex_tail, crate::specs::Number::lex_duration))]
+#[tactic(auto, using(crate::proofs::Parts::units), unfolding(crate::specs::Number::lex_tail, crate::specs::Number::lex_duration))]
 fn lex_tail(s: &[u8], n: usize, f: usize) -> Lexeme
     ensures { result ≡ lex_tail s.now n f }
 {

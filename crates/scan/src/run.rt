@@ -122,7 +122,7 @@ impl Run for Letters {
 }
 
 // The end of the run of a duration's pieces that starts at `at`.
-#[tactic(auto, using(std::proofs::lemmas::Bool::Decides::nat_tests, crate::proofs::Runs::letters_same, crate::proofs::Runs::point_turn, crate::proofs::Runs::two_turn, crate::proofs::Runs::none_turn, crate::proofs::Runs::letters_in, base::proofs::Reaches::reach_ge))]
+#[tactic(auto, using(crate::proofs::Runs::turns))]
 pub fn past_units(s: &[u8], at: usize) -> usize
     ensures { result ≡ past unit_piece s.now at }
 {

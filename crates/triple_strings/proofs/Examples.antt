@@ -8,6 +8,7 @@ use Rattle.utf8.specs.Grammar.{utf8_char, char_size}
 use Rattle.utf8.specs.Character.{code_bits, code_of, white_space, is_white, white_size}
 use Rattle.utf8.specs.Check.{is_tail, char_end}
 use Rattle.token.specs.declared.kind.TokenKind.TheVariants as K
+use Rattle.token.specs.declared.reason.Reason.TheVariants as R
 use Rattle.lexeme.specs.Lexeme.{extent, illegal, Note, note_at_start}
 use Rattle.lexeme.specs.declared.Lexeme.{Lexeme}
 use Rattle.lexeme.specs.declared.Mode.{Mode}
@@ -43,10 +44,10 @@ string raw n size value = example Strict (qqq ++ raw ++ qqq) (answer (extent K.S
 
 -- an open one
 abbrev open_strict : List ℕ → ℕ → Example
-open_strict raw n = example Strict (qqq ++ raw) (answer (illegal 12 0 n) [] [])
+open_strict raw n = example Strict (qqq ++ raw) (answer (illegal R.OpenTripleString 0 n) [] [])
 
 abbrev open_tolerant : List ℕ → ℕ → ℕ → List ℕ → Example
-open_tolerant raw n size value = example Tolerant (qqq ++ raw) (answer (extent K.String n 0 size 1) value (note_at_start 12 ∷ []))
+open_tolerant raw n size value = example Tolerant (qqq ++ raw) (answer (extent K.String n 0 size 1) value (note_at_start R.OpenTripleString ∷ []))
 
 unfoldable table : List Example
 table =

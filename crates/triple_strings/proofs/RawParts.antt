@@ -12,8 +12,8 @@ use lib.Seq.{sets}
 use mir.Syntax.{w64}
 use mir.Val.{Fits}
 use Rattle.base.proofs.Reaches.{rest_is}
-use Rattle.token.specs.Reason as reasons
 use Rattle.token.specs.declared.kind.TokenKind.TheVariants as K
+use Rattle.token.specs.declared.reason.Reason.TheVariants as R
 use Rattle.lexeme.specs.Lexeme.{extent, illegal}
 use Rattle.lexeme.specs.declared.Lexeme.{Lexeme}
 use Rattle.lexeme.specs.declared.Mode.{Mode}
@@ -60,7 +60,7 @@ module _ (s : List ℕ) (n : ℕ) (e : n ≡ until_quotes (take (length s - 3) (
       unfolding closed
       not_closed = le-ltb (raw_size s + 3) (length s) (omega (arith, size_is))
 
-      pub lex_strict : (end : ℕ) → m ≡ Strict → end ≡ open_triple_end s → r ≡ illegal reasons.open_triple_string 0 end → r ≡ lex_triple_string m s
+      pub lex_strict : (end : ℕ) → m ≡ Strict → end ≡ open_triple_end s → r ≡ illegal R.OpenTripleString 0 end → r ≡ lex_triple_string m s
       unfolding lex_triple_string
       lex_strict end k d w = rw (not_closed, k, ← d) w
 

@@ -8,7 +8,7 @@ use Prim.Native.Nat.{ℕ, ◌+◌, ◌-◌, ◌≤◌}
 use native.Mathlib.Nat.{add-zero}
 use native.Mathlib.Omega.{arith}
 use borrow.Author.Tests.{ltb-true, leb-true}
-use lib.Dec.{leb, lit≤}
+use lib.Dec.{leb}
 use lib.ListN.{length, take, drop, length-drop}
 use lib.Seq.{drop-drop, get_or-drop, length-take-le}
 use Rattle.base.specs.Choice.{pick}
@@ -16,8 +16,8 @@ use Rattle.base.specs.Bytes.{byte}
 use Rattle.base.proofs.Tests.{pick_case}
 use Rattle.utf8.specs.Onward.{Boundary}
 use Rattle.utf8.proofs.Boundaries.{boundary_at, ascii_boundary, end_boundary, char_end_ge, char_end_le, char_end_boundary}
-use Rattle.token.specs.Reason as reasons
 use Rattle.token.specs.declared.kind.TokenKind.TheVariants as K
+use Rattle.token.specs.declared.reason.Reason.TheVariants as R
 use Rattle.lexeme.specs.Lexeme.{extent, Note}
 use Rattle.lexeme.specs.declared.Lexeme.{Lexeme}
 use Rattle.lexeme.specs.declared.Mode.{Mode}
@@ -87,8 +87,7 @@ module _ (m : Mode) (s : List ℕ) (P : Lexeme → List ℕ → List Note → Ty
 
 open_within : (m : Mode) (s : List ℕ) → 3 ≤ length s → Within s (open_triple m s)
 open_within Strict s h =
-    illegal_within s reasons.open_triple_string 0 (open_triple_end s) 0 (omega (arith, open_ge s h)) (open_le s h) (omega arith) (omega arith)
-    (λ _. omega arith)
+    illegal_within s R.OpenTripleString 0 (open_triple_end s) 0 (omega (arith, open_ge s h)) (open_le s h) (omega arith) (λ _. omega arith)
 open_within Tolerant s h =
     extent_within s K.String (length s) (omega arith) (omega arith) 0 (length (dedent (raw_bytes s))) 1
     (omega (arith, value_le s h, raw_le s h)) (omega arith)
@@ -99,14 +98,6 @@ triple_within m s h =
     (λ c. extent_within s K.String (raw_size s + 6) (omega arith) (closed_long s c) 0 (length (dedent (raw_bytes s))) 0
     (omega (arith, value_le s h)) (omega arith))
     (open_within m s h)
-
--- its reason is at most that of an open one
-pub triple_reason : (m : Mode) (s : List ℕ) → (lex_triple_string m s).reason ≤ reasons.open_triple_string
-triple_reason m s = by_closed m s (λ r bs ns. r.reason ≤ reasons.open_triple_string) (λ _. lit≤ tt) (go m)
-  where
-    go : (n : Mode) → (open_triple n s).reason ≤ reasons.open_triple_string
-    go Strict = lit≤ tt
-    go Tolerant = lit≤ tt
 
 -- ---- the bytes and the reports
 

@@ -8,7 +8,7 @@ use crate::dedent::{dedent_len, dedent_write};
 use crate::quotes::find_quotes;
 use lexeme::{Lexeme, Mode};
 use token::kind::TokenKind;
-use token::reason;
+use token::reason::Reason;
 use utf8::check::char_end;
 
 // Where the strict reader leaves an open one: two bytes before the end, not before the content, and after the character there.
@@ -32,7 +32,7 @@ pub fn lex_triple_string(s: &[u8], mode: Mode) -> Lexeme
         return Lexeme::extent(TokenKind::String, n + 6, 0, dedent_len(&s[3..e]), 0);
     }
     match mode {
-        Mode::Strict => Lexeme::illegal(reason::OPEN_TRIPLE_STRING, 0, open_triple_end(s)),
+        Mode::Strict => Lexeme::illegal(Reason::OpenTripleString, 0, open_triple_end(s)),
         Mode::Tolerant => Lexeme::extent(TokenKind::String, s.len(), 0, dedent_len(&s[3..e]), 1),
     }
 }

@@ -1,8 +1,6 @@
-mod ByLines
+mod Stripping
 pub mod QuoteSearch
 mod LineScans
-mod Undents
-mod Dedents
 mod RawParts
 pub mod Triples
 pub mod ValueOctets

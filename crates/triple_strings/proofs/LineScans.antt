@@ -1,5 +1,4 @@
--- For the loops of `is_blank`, `last_line` and `starts_with`: what is found so far, with what is left, makes the whole. By the law of one step.
--- Assumes nothing.
+-- For the loop of `is_blank`: from each White_Space to the next, what is left is as blank as the whole. By the law of one step. Assumes nothing.
 use mathlib.Core.Path.{◌≡◌, refl, ap, sym, ◌∙◌}
 use mathlib.Core.Bool.{Bool, true, false, ◌&&◌}
 use mathlib.Core.List.{List, [], ◌∷◌, ◌++◌}
@@ -21,9 +20,6 @@ use Rattle.utf8.specs.Character.{white_size}
 use Rattle.utf8.proofs.Nonzero.{none_zero, some_same, some_more}
 use Rattle.utf8.proofs.Codes.{white_le}
 use Rattle.triple_strings.specs.Dedent.{next, blank, prefix}
-use Rattle.triple_strings.specs.UndentBytes.{last_start}
-
--- ---- `is_blank`
 
 blank_skip : (k : ℕ) (t : List ℕ) → blank k t ≡ blank 0 (drop k t)
 unfolding blank
@@ -93,54 +89,3 @@ module _ (t : List ℕ) (i : ℕ) (u : Blanking t i) where
             inside = omega (arith, taken);
             is = u.is ∙ blank_step (drop i t) (n - 1) left (size ∙ s) ∙ rw (← s, drop-drop n i t) refl;
           }
-
--- ---- `last_line`
-
--- one byte more at the end: a newline, or another
-start_snoc : (l : List ℕ) (x : ℕ) → last_start (l ++ (x ∷ [])) ≡ pick (eqb x 0x0A) (suc (length l)) (last_start l)
-unfolding last_start
-start_snoc [] x = refl
-start_snoc (y ∷ l) x = rw (start_snoc l x) (go (eqb x 0x0A))
-  where
-    go : (b : Bool)
-        → pick (eqb (pick b (suc (length l)) (last_start l)) 0) (pick (eqb y 0x0A) 1 0) (suc (pick b (suc (length l)) (last_start l)))
-        ≡ pick b (suc (suc (length l))) (pick (eqb (last_start l) 0) (pick (eqb y 0x0A) 1 0) (suc (last_start l)))
-    go true = rw (eqb-suc-zero (length l))
-    go false = refl
-
--- at i: the last line starts where that of the text before i does
-pub record Backing (t : List ℕ) (i : ℕ) : Type 0 where
-  pub inside : i ≤ length t
-  pub is : last_start t ≡ last_start (take i t)
-
-pub backing_first : (t : List ℕ) → Backing t (length t)
-backing_first t = record { inside = omega arith; is = rw take-length }
-
-module _ (t : List ℕ) (i : ℕ) (u : Backing t i) where
-  pub backing_end : i ≤ 0 → 0 ≡ last_start t
-  unfolding last_start
-  backing_end h = let z : i ≡ 0 = omega arith in sym (u.is ∙ rw z refl)
-
-  module _ (h : 0 < i) where
-    turn : last_start t ≡ pick (eqb (byte t (i - 1)) 0x0A) i (last_start (take (i - 1) t))
-    turn =
-        let z : i ≡ suc (i - 1) = omega arith in
-        let l : length (take (i - 1) t) ≡ i - 1 = length-take-le (i - 1) t (omega arith) in
-        let s : take i t ≡ take (i - 1) t ++ (byte t (i - 1) ∷ []) = ap (λ (n : ℕ). take n t) z ∙ take-suc t (i - 1) 0 (omega arith) in
-        let n : suc (length (take (i - 1) t)) ≡ i = omega arith in
-        u.is ∙ rw s (start_snoc (take (i - 1) t) (byte t (i - 1)) ∙ rw n)
-
-    pub backing_here : byte t (i - 1) ≡ 0x0A → i ≡ last_start t
-    backing_here e = sym (turn ∙ rw (eq-eqb (byte t (i - 1)) 0x0A e))
-
-    pub backing_on : (byte t (i - 1) ≡ 0x0A → ⊥) → Backing t (i - 1)
-    backing_on e = record { inside = omega arith; is = turn ∙ rw (ne_eqb (byte t (i - 1)) 0x0A e) }
-
--- ---- `indent_size`
-
--- the library's test of the front of a slice
-pub starts_prefix : (p t : List ℕ) → starts_with eqb t p ≡ prefix p t
-unfolding prefix
-starts_prefix [] t = refl
-starts_prefix (a ∷ p) [] = refl
-starts_prefix (a ∷ p) (x ∷ t) = ap (eqb a x &&◌) (starts_prefix p t)

@@ -5,7 +5,7 @@ use mathlib.Core.Bool.{Bool, true, false, ◌&&◌, and-true}
 use mathlib.Core.List.{List, [], ◌∷◌}
 use Prim.Native.Nat.{ℕ, suc, ◌+◌, ◌-◌, ◌≤◌, ◌<◌}
 use native.Mathlib.Omega.{arith}
-use borrow.Author.Tests.{eqb-true, ne_eqb}
+use borrow.Author.Tests.{eqb-true, eq-eqb, ne_eqb}
 use lib.Dec.{eqb}
 use Rattle.std.specs.List.{starts_with}
 use lib.ListN.{length, take, drop, length-drop, get_or-eq_default}
@@ -81,16 +81,16 @@ until_short : (t : List ℕ) → length t ≤ 2 → until_quotes t ≡ length t
 until_short [] h = let l = until_le [] in omega arith
 until_short (x ∷ t) h = until_cons x t (quotes_short (x ∷ t) (omega arith)) ∙ ap suc (until_short t (omega arith))
 
-turned : (a : ℕ) → eqb 0x22 a ≡ eqb a 0x22
-turned a = by_cases (eqb a 0x22) (λ e. rw (eqb-true a 0x22 e)) (λ e. rw e (ne_eqb 0x22 a (λ q. true_false (eqb a 0x22) (rw (← q)) e)))
+pub turned : (a b : ℕ) → eqb a b ≡ eqb b a
+turned a b = by_cases (eqb b a) (λ e. rw e (eq-eqb a b (sym (eqb-true b a e)))) (λ e. rw e (ne_eqb a b (λ q. true_false (eqb b a) (eq-eqb b a (sym q)) e)))
 
 -- the library's test of the front of a slice
 pub starts_quotes : (t : List ℕ) → starts_with eqb t (0x22 ∷ 0x22 ∷ 0x22 ∷ []) ≡ quotes t
 unfolding quotes
 starts_quotes [] = refl
-starts_quotes (a ∷ []) = rw (turned a)
-starts_quotes (a ∷ b ∷ []) = rw (turned a, turned b)
-starts_quotes (a ∷ b ∷ c ∷ t) = rw (turned a, turned b, turned c, and-true)
+starts_quotes (a ∷ []) = rw (turned 0x22 a)
+starts_quotes (a ∷ b ∷ []) = rw (turned 0x22 a, turned 0x22 b)
+starts_quotes (a ∷ b ∷ c ∷ t) = rw (turned 0x22 a, turned 0x22 b, turned 0x22 c, and-true)
 
 -- ---- `find_quotes` at i: no three quotes before it
 

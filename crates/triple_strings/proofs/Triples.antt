@@ -28,7 +28,7 @@ use Rattle.triple_strings.specs.Triple.{quotes, raw_size, raw_bytes, closed, ope
 use Rattle.triple_strings.specs.Triple.{open_triple_bytes, triple_bytes, open_triple_notes, triple_notes}
 use Rattle.utf8.proofs.Concatenations.{ascii_no_tail}
 use Rattle.triple_strings.proofs.QuoteSearch.{quote_0, quote_1, quote_2, quotes_long, until_found}
-use Rattle.triple_strings.proofs.Dedents.{dedent_le}
+use Rattle.triple_strings.proofs.Stripping.{dedent_le}
 use Rattle.triple_strings.proofs.RawParts.{raw_le}
 
 -- ---- the ends

@@ -1,3 +1,3 @@
 pub mod Dedent
 pub mod Triple
-pub mod UndentBytes
+pub mod Helpers

@@ -4,7 +4,7 @@ ghost use Rattle.std.proofs.lemmas.List.Edits.{sets};
 ghost use Rattle.triple_strings.specs.Dedent.{dedent};
 ghost use Rattle.triple_strings.specs.Triple.{raw_bytes, open_triple_end, lex_triple_string};
 
-use crate::dedent::{dedent_len, dedent_write};
+use crate::dedent::Dedent;
 use crate::quotes::find_quotes;
 use lexeme::{Lexeme, Mode};
 use token::kind::TokenKind;
@@ -29,11 +29,11 @@ pub fn lex_triple_string(s: &[u8], mode: Mode) -> Lexeme
     let n = find_quotes(&s[3..]);
     let e = n + 3;
     if e < s.len() {
-        return Lexeme::extent(TokenKind::String, n + 6, 0, dedent_len(&s[3..e]), 0);
+        return Lexeme::extent(TokenKind::String, n + 6, 0, Dedent::of(&s[3..e]).len(), 0);
     }
     match mode {
         Mode::Strict => Lexeme::illegal(Reason::OpenTripleString, 0, open_triple_end(s)),
-        Mode::Tolerant => Lexeme::extent(TokenKind::String, s.len(), 0, dedent_len(&s[3..e]), 1),
+        Mode::Tolerant => Lexeme::extent(TokenKind::String, s.len(), 0, Dedent::of(&s[3..e]).len(), 1),
     }
 }
 
@@ -44,5 +44,5 @@ pub fn put_triple_string(s: &[u8], out: &mut [u8], place: usize)
 {
     let n = find_quotes(&s[3..]);
     let e = n + 3;
-    dedent_write(&s[3..e], out, place);
+    Dedent::of(&s[3..e]).put(&mut out[place..]);
 }

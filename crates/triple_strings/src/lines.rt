@@ -1,7 +1,7 @@
 // Lines of a text and the indent before them.
 ghost use Rattle.std.specs.Prelude.{◌≡◌};
-ghost use Rattle.triple_strings.specs.Dedent.{blank};
-ghost use Rattle.triple_strings.specs.UndentBytes.{last_start, indent_size};
+ghost use Rattle.triple_strings.specs.Dedent.{blank, strip};
+ghost use Rattle.triple_strings.specs.Helpers.{LastLine};
 
 // Nothing but White_Space.
 pub fn is_blank(t: &[u8]) -> bool
@@ -17,25 +17,21 @@ pub fn is_blank(t: &[u8]) -> bool
     true
 }
 
-// Where the last line starts.
-pub fn last_line(t: &[u8]) -> usize
-    ensures { result ≡ last_start t.now }
+// What stands before the last line, without the newline between them, and the last line.
+pub fn split_last(t: &[u8]) -> (&[u8], &[u8])
+    ensures { LastLine t.now result.0.now result.1.now }
 {
     for k in (0..t.len()).rev() {
         if t[k] == b'\n' {
-            return k + 1;
+            return (&t[..k], &t[k + 1..]);
         }
     }
-    0
+    (&[], t)
 }
 
-// How many bytes of indent stand at the front.
-pub fn indent_size(t: &[u8], indent: &[u8]) -> usize
-    ensures { result ≡ indent_size indent.now t.now }
+// The line without the indent, where it has it.
+pub fn strip<'a>(indent: &[u8], line: &'a [u8]) -> &'a [u8]
+    ensures { result.now ≡ strip indent.now line.now }
 {
-    if t.starts_with(indent) {
-        indent.len()
-    } else {
-        0
-    }
+    line.strip_prefix(indent).unwrap_or(line)
 }

@@ -8,8 +8,8 @@ overflow_add-e c = search raw_fits
 pub returns-then-e-s : goal.returns-then-e-s
 returns-then-e-s c = search lex_closed
 
-pub slice_bounds-dedent_len-end-in-Tolerant : goal.slice_bounds-dedent_len-end-in-Tolerant
-slice_bounds-dedent_len-end-in-Tolerant c = search raw_in
+pub slice_bounds-of-end-in-Tolerant : goal.slice_bounds-of-end-in-Tolerant
+slice_bounds-of-end-in-Tolerant c = search raw_in
 
 pub returns-in-Strict : goal.returns-in-Strict
 returns-in-Strict c = search lex_strict

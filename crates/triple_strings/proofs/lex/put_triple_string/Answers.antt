@@ -5,11 +5,11 @@ use Rattle.triple_strings.proofs.lex.put_triple_string.Goals as goal
 pub overflow_add-e : goal.overflow_add-e
 overflow_add-e c = search raw_fits
 
-pub slice_bounds-dedent_write-end : goal.slice_bounds-dedent_write-end
-slice_bounds-dedent_write-end c = search raw_in
+pub slice_bounds-of-end : goal.slice_bounds-of-end
+slice_bounds-of-end c = search raw_in
 
-pub dedent_write-requires : goal.dedent_write-requires
-dedent_write-requires c = search put_room
+pub put-requires : goal.put-requires
+put-requires c = search put_room
 
 pub returns : goal.returns
 returns c = search put_out

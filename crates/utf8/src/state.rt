@@ -30,13 +30,6 @@ pub fn length_of(a: u8) -> usize
     u8::leading_zeros(255 - a) as usize
 }
 
-// A byte from `lo` to `hi` is wanted, and then `tails` bytes of UTF8-tail.
-fn wants(lo: u8, hi: u8, tails: u8) -> State
-    ensures { result ≡ State.Wants lo hi tails }
-{
-    State::Wants { lo, hi, tails }
-}
-
 impl State {
     // Between characters.
     pub fn start() -> State
@@ -63,19 +56,16 @@ impl State {
             return State::IllFormed;
         }
         // a smaller second byte would make an overlong form, a greater one a surrogate or a value above 0x10FFFF
-        match length_of(a) {
-            2 => wants(0x80, 0xBF, 0),
-            3 => match a {
-                0xE0 => wants(0xA0, 0xBF, 1),
-                0xED => wants(0x80, 0x9F, 1),
-                _ => wants(0x80, 0xBF, 1),
-            },
-            _ => match a {
-                0xF0 => wants(0x90, 0xBF, 2),
-                0xF4 => wants(0x80, 0x8F, 2),
-                _ => wants(0x80, 0xBF, 2),
-            },
-        }
+        let (lo, hi) = match a {
+            0xE0 => (0xA0, 0xBF),
+            0xED => (0x80, 0x9F),
+            0xF0 => (0x90, 0xBF),
+            0xF4 => (0x80, 0x8F),
+            _ => (0x80, 0xBF),
+        };
+        // at most four: the cast loses nothing
+        let tails = (length_of(a) - 2) as u8;
+        State::Wants { lo, hi, tails }
     }
 
     // The state after one byte more.

@@ -1,25 +1,20 @@
 -- For the loop of `is_blank`: from each White_Space to the next, what is left is as blank as the whole. By the law of one step. Assumes nothing.
-use mathlib.Core.Path.{◌≡◌, refl, ap, sym, ◌∙◌}
-use mathlib.Core.Bool.{Bool, true, false, ◌&&◌}
-use mathlib.Core.List.{List, [], ◌∷◌, ◌++◌}
+use mathlib.Core.Path.{◌≡◌, refl, sym, ◌∙◌}
+use mathlib.Core.Bool.{true, false}
+use mathlib.Core.List.{List, [], ◌∷◌}
 use Prim.Native.Nat.{ℕ, zero, suc, ◌+◌, ◌-◌, ◌≤◌, ◌<◌, ◌^◌}
 use native.Mathlib.Omega.{arith}
-use borrow.Author.Tests.{eq-eqb, ne_eqb}
-use lib.Dec.{eqb, eqb-suc-zero}
 use lib.ListN.{length, take, drop, length-drop, drop_of_length-le}
-use lib.Seq.{drop-drop, take-suc, take-length, length-take-le}
+use lib.Seq.{drop-drop}
 use mir.Syntax.{w64}
 use mir.Val.{Fits}
-use Rattle.std.specs.List.{starts_with}
 use Rattle.std.specs.Prelude.{Option, Some, None}
-use Rattle.base.specs.Choice.{pick}
 use Rattle.base.specs.Helpers.{nonzero}
-use Rattle.base.specs.Bytes.{byte}
 use Rattle.base.proofs.Reaches.{rest_is}
 use Rattle.utf8.specs.Character.{white_size}
 use Rattle.utf8.proofs.Nonzero.{none_zero, some_same, some_more}
 use Rattle.utf8.proofs.Codes.{white_le}
-use Rattle.triple_strings.specs.Dedent.{next, blank, prefix}
+use Rattle.triple_strings.specs.Dedent.{next, blank}
 
 blank_skip : (k : ℕ) (t : List ℕ) → blank k t ≡ blank 0 (drop k t)
 unfolding blank
@@ -89,3 +84,6 @@ module _ (t : List ℕ) (i : ℕ) (u : Blanking t i) where
             inside = omega (arith, taken);
             is = u.is ∙ blank_step (drop i t) (n - 1) left (size ∙ s) ∙ rw (← s, drop-drop n i t) refl;
           }
+
+-- what `is_blank` needs at each return
+pub ruleset blanking = (blanking_stop, blanking_fits, blanking_end)

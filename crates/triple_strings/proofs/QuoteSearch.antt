@@ -138,3 +138,6 @@ finding_over t i u h e =
     let v = step t i u (omega arith) (no_quote_2 (drop i t) (rw get_or-drop e)) in
     let w = step t (suc i) v (omega arith) (no_quote_1 (drop (suc i) t) (rw (get_or-drop, one) e)) in
     rw z (step t (suc (suc i)) w (omega arith) (no_quote_0 (drop (suc (suc i)) t) (rw (get_or-drop, none) e)))
+
+-- what `find_quotes` needs at each turn and each return
+pub ruleset finding = (finding_here, finding_on, finding_over, finding_end)

@@ -3,25 +3,24 @@
 use mathlib.Core.Path.{◌≡◌, refl, ap, sym, ◌∙◌}
 use mathlib.Core.Bool.{Bool, true, false, ◌&&◌, cond}
 use mathlib.Core.List.{List, [], ◌∷◌, ◌++◌, map, append-nil}
-use mathlib.Core.Logic.{⊎_elim, inl, inr}
-use Prim.Native.Nat.{ℕ, zero, suc, ◌+◌, ◌≤◌, ◌<◌}
+use mathlib.Core.Logic.{⊎_elim}
+use Prim.Native.Nat.{ℕ, suc, ◌+◌, ◌≤◌, ◌<◌}
 use denote.Ref.{Bor}
 use denote.Param.Members.{Mut}
-use Rattle.std.specs.declared.slice.SplitInclusive.{SplitInclusive}
 use Rattle.std.specs.Fn.{ComputesKey, Called}
 use Rattle.std.proofs.lemmas.Fn.{always_returns_same}
 use Rattle.std.specs.Prelude.{min, Option, None, Some, MatchOption}
 use Rattle.std.specs.Option.{unwrap_or}
 use Rattle.std.proofs.lemmas.Bool.{cases_lt}
 use native.Mathlib.Omega.{arith}
-use borrow.Author.Tests.{eqb-true, ne_eqb}
+use borrow.Author.Tests.{eqb-true}
 use lib.Dec.{eqb}
 use Rattle.std.proofs.lemmas.List.{drop-append-le, get_or-take}
 use Rattle.std.proofs.Common.{append_assoc}
 use lib.ListN.{length, drop, take, get_or, get_or-append, length-append, length-drop}
 use lib.Pointwise.{pointwise}
-use Rattle.std.specs.List.{All, slice_split, onto_first, IsFirstMatchOrLen}
-use Rattle.std.proofs.lemmas.List.Elements.{All-nil, All-head, All-tail}
+use Rattle.std.specs.List.{slice_split, onto_first, IsFirstMatchOrLen}
+use Rattle.std.proofs.lemmas.List.Elements.{All-head, All-tail}
 use Rattle.std.proofs.lemmas.List.Splits.{slice_split_none, slice_split_at}
 use Rattle.base.specs.Choice.{pick}
 use lib.Seq.{take-suc, take_all, length-take-le}
@@ -79,7 +78,7 @@ strip_nil (a ∷ p) = refl
 
 pub strip_is : (ind : List ℕ) (line : Bor (List ℕ)) (r : Option (Bor (List ℕ)))
     → MatchOption r (pointwise eqb (take (length ind) line.now) ind ≡ false)
-        (λ x. (pointwise eqb (take (length ind) line.now) ind ≡ true) × (x.now ≡ drop (length ind) line.now) × (length x.now + length ind ≡ length line.now))
+    (λ x. (pointwise eqb (take (length ind) line.now) ind ≡ true) × (x.now ≡ drop (length ind) line.now) × (length x.now + length ind ≡ length line.now))
     → (unwrap_or r line).now ≡ strip ind line.now
 unfolding strip
 strip_is ind line None h = rw (← prefix_pointwise ind line.now, h)
@@ -130,16 +129,17 @@ module _ (ind : List ℕ) (one : OneLine ind) where
           let last : get_or x i 0 ≡ 0x0A = same i 0 (omega arith) ∙ eqb-true (get_or s i 0) 0x0A (f.1 h 0) in
           let whole : x ≡ take i x ++ (0x0A ∷ []) = sym (take_all (suc i) x (omega arith)) ∙ take-suc x i 0 (omega arith) ∙ rw last in
           let clean : OneLine (take i x) = λ k d l.
-              let short : length (take i x) ≡ i = length-take-le i x (omega arith) in
-              let near : get_or (take i x) k d ≡ get_or s k d = get_or-take i x k d (omega arith) ∙ same k d (omega arith) in
-              rw near (f.0 k d (omega arith) (omega arith)) in
+          let short : length (take i x) ≡ i = length-take-le i x (omega arith) in
+          let near : get_or (take i x) k d ≡ get_or s k d = get_or-take i x k d (omega arith) ∙ same k d (omega arith) in
+          rw near (f.0 k d (omega arith) (omega arith)) in
           rw (e, whole, append_assoc) (stripped_next (take i x) t clean)
 
       rest : length s ≤ i → stripped ind s ≡ strip ind x ++ stripped ind t
       rest h =
           let z : t ≡ [] = empty t (omega (arith, sum)) in
           let clean : OneLine x = λ k d l. rw (same k d l) (f.0 k d (omega arith) (omega (arith, sum))) in
-          rw (e, z, stripped_nil, append-nil, append-nil) (stripped_one x clean)
+          let whole : s ≡ x = rw (e, z, append-nil) in
+          rw (whole, z, stripped_nil, append-nil) (stripped_one x clean)
 
   -- the same, of a call of `next` with a closure that tests for a newline
   pub stripped_more : {F : Type 0} (g : Mut F (Bor ℕ × Unit {0}) Bool) (s x t : List ℕ) (f h : F)

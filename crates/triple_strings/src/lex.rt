@@ -12,6 +12,7 @@ use token::reason::Reason;
 use utf8::check::char_end;
 
 // Where the strict reader leaves an open one: two bytes before the end, not before the content, and after the character there.
+#[tactic(auto, unfolding(crate::specs::Triple::open_triple_end))]
 fn open_triple_end(s: &[u8]) -> usize
     ensures { result ≡ open_triple_end s.now }
 {
@@ -33,7 +34,13 @@ pub fn lex_triple_string(s: &[u8], mode: Mode) -> Lexeme
     }
     match mode {
         Mode::Strict => Lexeme::illegal(Reason::OpenTripleString, 0, open_triple_end(s)),
-        Mode::Tolerant => Lexeme::extent(TokenKind::String, s.len(), 0, Dedent::of(&s[3..e]).len(), 1),
+        Mode::Tolerant => Lexeme::extent(
+            TokenKind::String,
+            s.len(),
+            0,
+            Dedent::of(&s[3..e]).len(),
+            1,
+        ),
     }
 }
 

@@ -4,10 +4,12 @@ ghost use Rattle.triple_strings.specs.Dedent.{blank, strip};
 ghost use Rattle.triple_strings.specs.Helpers.{LastLine};
 
 // Nothing but White_Space.
+#[tactic(auto, using(crate::proofs::LineScans::blanking))]
 pub fn is_blank(t: &[u8]) -> bool
     ensures { result ≡ blank 0 t.now }
 {
     let mut i = 0;
+    // A `while`: the step is the length of the character.
     while i < t.len() {
         let Some(n) = utf8::character::white_size(&t[i..]) else {
             return false;

@@ -3,6 +3,7 @@ ghost use Rattle.std.specs.Prelude.{◌≡◌};
 ghost use Rattle.triple_strings.specs.Triple.{quotes, until_quotes};
 
 // Three quotes stand at the front.
+#[tactic(auto, using(crate::proofs::QuoteSearch::starts_quotes))]
 pub fn at_quotes(t: &[u8]) -> bool
     ensures { result ≡ quotes t.now }
 {
@@ -10,10 +11,12 @@ pub fn at_quotes(t: &[u8]) -> bool
 }
 
 // How many bytes stand before the first three quotes; all of them where there are none. A byte that is no quote rules out three starts.
+#[tactic(auto, using(crate::proofs::QuoteSearch::finding))]
 pub fn find_quotes(t: &[u8]) -> usize
     ensures { result ≡ until_quotes t.now }
 {
     let mut i = 0;
+    // A `while`: the step is one byte or three.
     while 2 < t.len() - i {
         if t[i + 2] == b'"' {
             if at_quotes(&t[i..]) {

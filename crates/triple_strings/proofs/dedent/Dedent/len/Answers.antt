@@ -1,14 +1,12 @@
 -- `len` is the length of `stripped`: what is measured, with what is left, is as long as the whole. Assumes nothing.
 use mathlib.Core.Path.{◌≡◌, ap, sym, ◌∙◌}
-use mathlib.Core.List.{List, []}
-use Prim.Native.Nat.{ℕ, ◌+◌}
+use mathlib.Core.List.{[]}
+use Prim.Native.Nat.{◌+◌}
 use native.Mathlib.Omega.{arith}
 use borrow.Author.Rules.{rules}
 use borrow.Author.Tests.{tests, eqb-true}
 use lib.ListN.{length, length-append}
-use Rattle.std.proofs.lemmas.Fn.{always_returns_same}
 use Rattle.base.proofs.Stores.{empty}
-use Rattle.triple_strings.specs.Dedent.{strip}
 use Rattle.triple_strings.specs.Helpers.{stripped}
 use Rattle.triple_strings.proofs.Stripping.{stripped_empty, stripped_nil, stripped_more, stripped_le}
 use Rattle.triple_strings.proofs.dedent.Dedent.len.Goals as goal
@@ -35,5 +33,5 @@ pub returns : goal.returns
 returns c =
     let k = c.in-None.ensures.steps in
     let e : stripped c.args.self.now.indent.now c.loop-line.line-iterator.rest.now ≡ [] =
-        rw (empty _ k.0, stripped_nil c.args.self.now.indent.now c.args.self.now.one_line) in
+    rw (empty _ k.0, stripped_nil c.args.self.now.indent.now c.args.self.now.one_line) in
     omega (arith, ap length e)

@@ -1,17 +1,15 @@
 -- `put` stores `stripped`: what is left, stored from `end` on, makes the whole. Assumes nothing.
 use mathlib.Core.Path.{◌≡◌, refl, ap, sym, ◌∙◌}
-use mathlib.Core.List.{List, [], ◌++◌}
-use Prim.Native.Nat.{ℕ, ◌+◌, ◌≤◌}
+use mathlib.Core.List.{◌++◌}
+use Prim.Native.Nat.{◌+◌, ◌≤◌}
 use native.Mathlib.Omega.{arith}
 use borrow.Author.Rules.{rules}
 use borrow.Author.Tests.{tests, eqb-true}
-use lib.ListN.{length, length-append}
-use Rattle.std.proofs.lemmas.Fn.{always_returns_same}
+use lib.ListN.{length}
 use Rattle.base.proofs.Storings.{storing_first, storing_end, storing_room, storing_more}
 use Rattle.base.proofs.Stores.{empty}
-use Rattle.triple_strings.specs.Dedent.{strip}
 use Rattle.triple_strings.specs.Helpers.{stripped}
-use Rattle.triple_strings.proofs.Stripping.{stripped_empty, stripped_nil, stripped_more, stripped_le}
+use Rattle.triple_strings.proofs.Stripping.{stripped_empty, stripped_nil, stripped_more}
 use Rattle.triple_strings.proofs.dedent.Dedent.put.Goals as goal
 
 pub copy-requires : goal.copy-requires

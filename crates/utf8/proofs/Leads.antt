@@ -43,19 +43,16 @@ length_low a = length_case (λ n. 2 ≤ n) a (λ h. lit≤ tt) (λ h. lit≤ tt)
 pub length_high : (a : ℕ) → length_of a ≤ 4
 length_high a = length_case (λ n. n ≤ 4) a (λ h. lit≤ tt) (λ h. lit≤ tt) (λ h. lit≤ tt)
 
--- the bounds of the second byte
-abbrev pub bounds : ℕ → ℕ × ℕ
-bounds a =
-    pick (eqb a 0xE0) (0xA0, 0xBF)
-    (pick (eqb a 0xED) (0x80, 0x9F) (pick (eqb a 0xF0) (0x90, 0xBF) (pick (eqb a 0xF4) (0x80, 0x8F) (0x80, 0xBF))))
-
-pub bounds_other : (a : ℕ) → (a ≡ 0xE0 → ⊥) → (a ≡ 0xED → ⊥) → (a ≡ 0xF0 → ⊥) → (a ≡ 0xF4 → ⊥) → (0x80, 0xBF) ≡ bounds a
-bounds_other a e f g h = rw (ne_eqb a 0xE0 e, ne_eqb a 0xED f, ne_eqb a 0xF0 g, ne_eqb a 0xF4 h)
-
 -- what `lead` computes
 abbrev lead_by : ℕ → State
 lead_by a =
-    pick (ltb a 0x80) Between (pick (within 0xC2 0xF4 a) (Wants (bounds a).0 (bounds a).1 (length_of a - 2)) IllFormed)
+    pick (ltb a 0x80) Between
+    (pick (within 0xC2 0xF4 a)
+    (pick (eqb (length_of a) 2) (Wants 0x80 0xBF 0)
+    (pick (eqb (length_of a) 3)
+    (pick (eqb a 0xE0) (Wants 0xA0 0xBF 1) (pick (eqb a 0xED) (Wants 0x80 0x9F 1) (Wants 0x80 0xBF 1)))
+    (pick (eqb a 0xF0) (Wants 0x90 0xBF 2) (pick (eqb a 0xF4) (Wants 0x80 0x8F 2) (Wants 0x80 0xBF 2)))))
+    IllFormed)
 
 abbrev same : State → State → Bool
 same Between Between = true
@@ -95,8 +92,21 @@ module _ (a : ℕ) where
   pub lead_ill : a < 256 → 0x80 ≤ a → within 0xC2 0xF4 a ≡ false → IllFormed ≡ lead_of a
   lead_ill h l e = rw (← lead_law a h) (simp (le-ltb a 0x80 l, e))
 
-  pub lead_wants : (p : ℕ × ℕ) (n : ℕ) → 0xC2 ≤ a → a ≤ 0xF4 → p ≡ bounds a → n ≡ length_of a → Wants p.0 p.1 (n - 2) ≡ lead_of a
-  lead_wants p n l h e f = rw (e, f, ← lead_law a (omega arith)) (simp (le-ltb a 0x80 (omega arith), inside 0xC2 0xF4 a l h))
+  module _ (l : 0xC2 ≤ a) (h : a ≤ 0xF4) (n : ℕ) (e : n ≡ length_of a) where
+    some : lead_of a
+        ≡ pick (eqb n 2) (Wants 0x80 0xBF 0)
+        (pick (eqb n 3) (pick (eqb a 0xE0) (Wants 0xA0 0xBF 1) (pick (eqb a 0xED) (Wants 0x80 0x9F 1) (Wants 0x80 0xBF 1)))
+        (pick (eqb a 0xF0) (Wants 0x90 0xBF 2) (pick (eqb a 0xF4) (Wants 0x80 0x8F 2) (Wants 0x80 0xBF 2))))
+    some = rw (← lead_law a (omega arith), e) (simp (le-ltb a 0x80 (omega arith), inside 0xC2 0xF4 a l h))
+
+    pub lead_two : n ≡ 2 → Wants 0x80 0xBF 0 ≡ lead_of a
+    lead_two z = rw (some, z)
+
+    pub lead_three : n ≡ 3 → (a ≡ 0xE0 → ⊥) → (a ≡ 0xED → ⊥) → Wants 0x80 0xBF 1 ≡ lead_of a
+    lead_three z f g = rw (some, z, ne_eqb a 0xE0 f, ne_eqb a 0xED g)
+
+    pub lead_four : (n ≡ 2 → ⊥) → (n ≡ 3 → ⊥) → (a ≡ 0xF0 → ⊥) → (a ≡ 0xF4 → ⊥) → Wants 0x80 0xBF 2 ≡ lead_of a
+    lead_four y z f g = rw (some, ne_eqb n 2 y, ne_eqb n 3 z, ne_eqb a 0xF0 f, ne_eqb a 0xF4 g)
 
 -- ---- the size of a character by its first octet
 

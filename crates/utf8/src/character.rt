@@ -117,6 +117,7 @@ impl Encoded {
 fn tail_of(bits: u32) -> u8
     ensures { result ≡ 0x80 + bits % 64 }
 {
+    // A cast, as those of `encode`: it is proved to fit, and `u8::try_from` would add a case that cannot come.
     (0x80 + bits % 64) as u8
 }
 

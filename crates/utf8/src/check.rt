@@ -24,6 +24,7 @@ fn past_chars(text: &[u8], at: usize, end: usize) -> Result<usize, Utf8Error>
     ensures { Passed text.now at end result }
 {
     let mut i = at;
+    // A `while`: the step is the length of what was found.
     while i < end {
         if text[i] < 0x80 {
             i = past_ascii(text, i);
@@ -39,6 +40,7 @@ pub fn check(text: &[u8]) -> Result<(), Utf8Error>
     ensures { Checked text.now result }
 {
     let mut i = 0;
+    // A `while`: a step ends where windows and a stretch end.
     while i < text.len() {
         let from = past_short(text, i);
         let end = text.len().min(from.saturating_add(STRETCH));

@@ -26,6 +26,7 @@ pub fn past_short(text: &[u8], at: usize) -> usize
     ensures { Onward text.now at result }
 {
     let mut i = at;
+    // A `while`: the step is a window, or a byte more.
     while WINDOW < text.len() - i {
         let end = i + WINDOW;
         let next = end + 1;
@@ -33,7 +34,7 @@ pub fn past_short(text: &[u8], at: usize) -> usize
         if all(Ascii, window) {
             i = end;
         } else if !is_tail(text[i]) & all(Short, window) {
-            i = end + (is_tail(text[end]) as usize);
+            i = end + usize::from(is_tail(text[end]));
         } else {
             return i;
         }

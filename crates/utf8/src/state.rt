@@ -27,6 +27,7 @@ pub fn length_of(a: u8) -> usize
     requires { (0xC2 ≤ a) × (a ≤ 0xF4) }
     ensures { result ≡ length_of a }
 {
+    // A cast: at most eight, and `usize` has no `From<u32>`.
     u8::leading_zeros(255 - a) as usize
 }
 
@@ -56,15 +57,19 @@ impl State {
             return State::IllFormed;
         }
         // a smaller second byte would make an overlong form, a greater one a surrogate or a value above 0x10FFFF
-        let (lo, hi) = match a {
-            0xE0 => (0xA0, 0xBF),
-            0xED => (0x80, 0x9F),
-            0xF0 => (0x90, 0xBF),
-            0xF4 => (0x80, 0x8F),
-            _ => (0x80, 0xBF),
+        let (lo, hi, tails) = match length_of(a) {
+            2 => (0x80, 0xBF, 0),
+            3 => match a {
+                0xE0 => (0xA0, 0xBF, 1),
+                0xED => (0x80, 0x9F, 1),
+                _ => (0x80, 0xBF, 1),
+            },
+            _ => match a {
+                0xF0 => (0x90, 0xBF, 2),
+                0xF4 => (0x80, 0x8F, 2),
+                _ => (0x80, 0xBF, 2),
+            },
         };
-        // at most four: the cast loses nothing
-        let tails = (length_of(a) - 2) as u8;
         State::Wants { lo, hi, tails }
     }
 
@@ -95,10 +100,6 @@ impl State {
     pub fn push_all(self, bytes: &[u8]) -> State
         ensures { result ≡ push_all self bytes.now }
     {
-        let mut state = self;
-        for b in bytes {
-            state = state.push(*b);
-        }
-        state
+        bytes.iter().fold(self, |state, b| state.push(*b))
     }
 }

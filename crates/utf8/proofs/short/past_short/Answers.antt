@@ -10,7 +10,7 @@ pub loop-i-preserved-then-all : goal.loop-i-preserved-then-all
 loop-i-preserved-then-all c = search ascii_window
 
 pub overflow_add-i : goal.overflow_add-i
-overflow_add-i c = search window_fits
+overflow_add-i c = rw c.from.ensures (search window_fits)
 
 pub loop-i-preserved : goal.loop-i-preserved
-loop-i-preserved c = search short_window
+loop-i-preserved c = rw c.from.ensures (search short_window)

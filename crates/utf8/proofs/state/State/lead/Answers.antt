@@ -1,33 +1,39 @@
 -- `lead` meets its contract: the length and the bounds of the second byte agree with the grammar. Assumes nothing.
-use mathlib.Core.Path.{◌≡◌, ◌∙◌, sym}
-use Prim.Native.Nat.{ℕ}
-use native.Mathlib.Omega.{arith}
-use Rattle.base.proofs.Tests.{within_low, within_high}
-use Rattle.utf8.proofs.Leads.{bounds, bounds_other, lead_ascii, lead_ill, lead_wants, length_low, length_high}
-use Rattle.utf8.proofs.state.State.lead.Goals.{in-224, in-237, in-240, in-244, in_default}
+use mathlib.Core.Path.{◌∙◌, sym}
+use borrow.Author.Rules.{rules}
+use Rattle.utf8.specs.Grammar.{utf8_char}
+use Rattle.utf8.specs.State.{lead_of}
+use Rattle.utf8.proofs.Leads.{lead_ascii, lead_ill, lead_two, lead_three, lead_four}
+use Rattle.utf8.proofs.Sizes.{first_low, first_high}
 use Rattle.utf8.proofs.state.State.lead.Goals as goal
 
 pub returns-then-a-lt128 : goal.returns-then-a-lt128
 returns-then-a-lt128 c = lead_ascii _ c.if-a-lt128.true
 
 pub returns-then-not-is_first : goal.returns-then-not-is_first
-returns-then-not-is_first c = lead_ill _ c.ranges.a.fits c.if-a-lt128.false (sym c.is_first.ensures ∙ c.if-not-is_first.true)
+returns-then-not-is_first c = lead_ill _ (search rules) c.if-a-lt128.false (sym c.is_first.ensures ∙ c.if-not-is_first.true)
 
-pub overflow_sub-tails : goal.overflow_sub-tails
-overflow_sub-tails c = omega (arith, length_low c.args.a)
+pub returns-in-2 : goal.returns-in-2
+returns-in-2 c = search (lead_two, first_low, first_high)
 
-pub overflow_cast-tails : goal.overflow_cast-tails
-overflow_cast-tails c = omega (arith, length_high c.args.a)
+pub returns-in-224 : goal.returns-in-224
+unfolding lead_of utf8_char
+returns-in-224 c = rw c.in-224.is
 
-pub returns : goal.returns
-returns c =
-    let first = sym c.is_first.ensures ∙ c.if-not-is_first.false in
-    let found : c.match-a.lo ≡ bounds c.args.a =
-        elim c.match-a.branch [
-          in-224 w ↦ rw (w.lo-is, w.in-224.is)
-          | in-237 w ↦ rw (w.lo-is, w.in-237.is)
-          | in-240 w ↦ rw (w.lo-is, w.in-240.is)
-          | in-244 w ↦ rw (w.lo-is, w.in-244.is)
-          | in_default w ↦ rw w.lo-is (search (bounds_other, w.in_default))
-        ] in
-    lead_wants _ _ _ (within_low 0xC2 0xF4 c.args.a first) (within_high 0xC2 0xF4 c.args.a first) found c.length_of.ensures
+pub returns-in-237 : goal.returns-in-237
+unfolding lead_of utf8_char
+returns-in-237 c = rw c.in-237.is
+
+pub returns-in_default-a : goal.returns-in_default-a
+returns-in_default-a c = search (lead_three, first_low, first_high)
+
+pub returns-in-240 : goal.returns-in-240
+unfolding lead_of utf8_char
+returns-in-240 c = rw c.in-240.is
+
+pub returns-in-244 : goal.returns-in-244
+unfolding lead_of utf8_char
+returns-in-244 c = rw c.in-244.is
+
+pub returns-in_default-a-2 : goal.returns-in_default-a-2
+returns-in_default-a-2 c = search (lead_four, first_low, first_high)

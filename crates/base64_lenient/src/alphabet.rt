@@ -5,7 +5,7 @@ ghost use Rattle.base64_lenient.specs.Rfc4648.{standard, url_safe};
 ghost use Rattle.base64_lenient.specs.Lenient.{is_in};
 ghost use Rattle.base64_lenient.specs.Helpers.{in_both, alphabets_by, alphabets_of, shared, some_alphabet};
 
-// An entry for each byte: its value as a character, in the alphabet that has it, or 64.
+// An entry for each byte: its value as a character, in the alphabet that has it, or 64. A number and no `Option`, so that one load tells value and test.
 pub const VALUES: [u8; 256] = [
     64, // 0x00
     64, // 0x01
@@ -276,7 +276,7 @@ pub fn in_both(b: u8) -> bool
     ((b'a' <= lower) & (lower <= b'z')) | ((b'0' <= b) & (b <= b'9'))
 }
 
-// Whether the standard alphabet has the byte.
+// Whether the standard alphabet has the byte. A function of the two own characters for this and the next would leave both, as its callers.
 pub fn in_standard(b: u8) -> bool
     ensures { result ≡ is_in standard b }
 {

@@ -42,7 +42,7 @@ struct Group {
 fn value_of(b: u8) -> u8
     ensures { result ≡ six_bits b }
 {
-    VALUES[b as usize]
+    VALUES[usize::from(b)]
 }
 
 // The next characters from `at` on: line breaks are skipped, a pad character or the end ends them.
@@ -130,6 +130,7 @@ fn put_bytes(run: &[u8], out: &mut [u8])
 {
     let mut i = 0;
     let mut o = 0;
+    // A `while`: the step is the length of the groups that were found.
     while i < run.len() {
         let n = whole_groups(run, i, out, o);
         i += n * 4;

@@ -83,7 +83,7 @@ impl Seen {
         }
     }
 
-    // After more bytes, one by one.
+    // After more bytes, one by one. A `for` and no `fold`: a closure would have to ask for the room that `one` asks for.
     fn all(self, s: &[u8]) -> Seen
         requires { CanSee self (length s.now) }
         ensures { result ≡ seen_all self s.now }
@@ -147,6 +147,7 @@ pub fn judge(run: &[u8]) -> Option<usize>
 {
     let mut seen = Seen::none();
     let mut i = 0;
+    // A `while`: the step is the length of the rows that were passed, and of the block after them.
     while i < run.len() {
         let Passed {
             seen: before,

@@ -12,3 +12,4 @@ pub mod Tables
 pub mod ByteKinds
 pub mod KindRuns
 pub mod Words
+pub mod Nonzero

@@ -6,10 +6,11 @@ use Rattle.std.specs.Option.{option_map}
 use Rattle.std.proofs.lemmas.Option.{none-some}
 use borrow.Author.Tests.{eqb-false}
 use Rattle.base.specs.Helpers.{nonzero}
+use Rattle.base.proofs.Nonzero.{none_zero, some_same, some_more}
 use Rattle.base.specs.Bytes.{byte, same_bytes}
 use Rattle.base.specs.Runs.{reach}
 use Rattle.base.specs.Digits.{in_digits}
-use Rattle.base.proofs.Tests.{by_cases, pick_case, pick_first, pick_second, in_text, pick_same}
+use Rattle.base.proofs.Tests.{by_cases, pick_case, in_text, pick_same}
 use Rattle.base.proofs.Reaches.{reach_le, reach_rest}
 use Rattle.go_duration.specs.Fraction.{most, Acc, no_digits, read_digits, frac_of, fraction_nanos}
 use Rattle.go_duration.specs.Digits.{count_of, UnitNanos}
@@ -35,17 +36,6 @@ module _ (w : ℕ) (a : Acc) (u x : ℕ) (q : x ≡ w * u + frac_of a u) where
       (λ e. let l = leb-true x most e in
       rw (e, ← q, le-ltb most (w * u) (omega arith), le-ltb most x l))
       (λ e. rw e (nanos_over (leb-false x most e)))
-
--- ---- a number that is none where it is 0
-nonzero_none : (n : ℕ) → None ≡ nonzero n → n ≡ 0
-nonzero_none n e = eqb-true n 0 (pick_first (eqb n 0) (λ z. none-some n (sym z)) (sym e)).0
-
-nonzero_some : (u n : ℕ) → Some u ≡ nonzero n → (u ≡ n) × (0 < u)
-nonzero_some u n e =
-    let p = pick_second (eqb n 0) (none-some u) (sym e) in
-    let f = p.1 in
-    let q : u ≡ n = cc in
-    (q, rw q (pos_of_ne-zero (eqb-false n 0 p.0)))
 
 module _ (s : List ℕ) where
   pub part_over : most < whole_of s → None ≡ part_of s
@@ -135,12 +125,12 @@ module _ (s : List ℕ) where
       pub next_unit : None ≡ nonzero (unit_of (take z (drop e s))) → None ≡ part_of s
       unfolding part_of
       next_unit m =
-          let u : part_unit s ≡ 0 = unit_is ∙ (nonzero_none _ m) in
+          let u : part_unit s ≡ 0 = unit_is ∙ none_zero _ m in
           rw (some_digit, ← t.value, le-ltb most w.value t.fits, u)
 
       module _ (u : ℕ) (m : Some u ≡ nonzero (unit_of (take z (drop e s)))) where
         known : (part_unit s ≡ u) × (0 < u)
-        known = let k = nonzero_some u _ m in (unit_is ∙ sym k.0, k.1)
+        known = (unit_is ∙ some_same _ u m, some_more _ u m)
 
         pub next_known : UnitNanos u
         next_known = record { some = known.1; top = rw (← known.0, unit_is) (unit_le _) }

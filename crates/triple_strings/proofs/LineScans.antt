@@ -12,7 +12,7 @@ use Rattle.std.specs.Prelude.{Option, Some, None}
 use Rattle.base.specs.Helpers.{nonzero}
 use Rattle.base.proofs.Reaches.{rest_is}
 use Rattle.utf8.specs.Character.{white_size}
-use Rattle.utf8.proofs.Nonzero.{none_zero, some_same, some_more}
+use Rattle.base.proofs.Nonzero.{none_zero, some_same, some_more}
 use Rattle.utf8.proofs.Codes.{white_le}
 use Rattle.triple_strings.specs.Dedent.{next, blank}
 

@@ -19,7 +19,7 @@ use Rattle.utf8.specs.Character.{code_bits, code_of, is_white, white_size}
 use Rattle.utf8.specs.Helpers.{decode_of}
 use Rattle.utf8.specs.declared.character.Character.{Character}
 use Rattle.utf8.proofs.Chars.{size_le, size_single}
-use Rattle.utf8.proofs.Nonzero.{none_zero, some_same, some_more, zero_none, more_some}
+use Rattle.base.proofs.Nonzero.{none_zero, some_same, some_more, zero_none, more_some}
 
 -- the free bits of a character are in its own bytes
 bits_front : (n : ℕ) (s : List ℕ) → code_bits n (take n s) ≡ code_bits n s

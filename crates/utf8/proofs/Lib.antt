@@ -1,5 +1,4 @@
 mod Alternatives
-pub mod Nonzero
 pub mod Chars
 mod Runs
 pub mod Valid

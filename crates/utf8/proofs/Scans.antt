@@ -20,7 +20,7 @@ use Rattle.utf8.specs.Onward.{Onward, Stops, Passed}
 use Rattle.utf8.specs.Check.{check_of, Checked}
 use Rattle.utf8.specs.declared.check.Utf8Error.{Utf8Error}
 use Rattle.utf8.proofs.Chars.{size_le}
-use Rattle.utf8.proofs.Nonzero.{none_zero, some_same, some_more}
+use Rattle.base.proofs.Nonzero.{none_zero, some_same, some_more}
 use Rattle.utf8.proofs.Runs.{reach_past}
 use Rattle.utf8.proofs.Valid.{checked}
 

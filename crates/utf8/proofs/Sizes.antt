@@ -15,7 +15,7 @@ use Rattle.utf8.specs.State.{lead_of, size_after}
 use Rattle.utf8.specs.declared.state.State.{State}
 use Rattle.utf8.proofs.Chars.{size_le}
 use Rattle.utf8.proofs.Leads.{lead_size}
-use Rattle.utf8.proofs.Nonzero.{zero_none}
+use Rattle.base.proofs.Nonzero.{zero_none}
 
 -- an octet that can be the first of several
 module _ (a : ℕ) (x : Bool) (e : x ≡ within 0xC2 0xF4 a) (f : not x ≡ false) where

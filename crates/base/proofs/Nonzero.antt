@@ -1,4 +1,4 @@
--- For Sizes, Codes and Scans, and triple_strings: a number that is none where it is 0. By cases on it. Assumes nothing.
+-- For utf8, triple_strings and go_duration: a number that is none where it is 0. By cases on it. Assumes nothing.
 use mathlib.Core.Path.{◌≡◌, refl}
 use Prim.Native.Nat.{ℕ, zero, suc, ◌<◌}
 use native.Mathlib.Omega.{arith}

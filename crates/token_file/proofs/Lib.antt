@@ -1,5 +1,4 @@
 mod Numbers
-mod Signs
 mod Rows
 mod Pieces
 mod Judging

@@ -1,7 +1,7 @@
 // The numbers of a token record that a token file keeps, and the record rules.
 ghost use Rattle.std.specs.Prelude.{◌≡◌, ◌&&◌, OkIff, true};
 ghost use Rattle.token.specs.Reason.{reason_ok};
-ghost use Rattle.token_file.specs.Rules.{natural_row, row_at, filled, span_ok, row_ok};
+ghost use Rattle.token_file.specs.Rules.{natural, natural_of, natural_row, row_at, filled, span_ok, row_ok};
 ghost use Rattle.token_file.specs.Fits.{last_ok};
 
 use limits::MAX_MESSAGE_SIZE;
@@ -22,21 +22,29 @@ pub struct Row {
     pub column: usize,
 }
 
+// A kept number, unless it is below 0.
+fn natural(z: i64) -> Result<usize, TryFromIntError>
+    ensures { OkIff result (natural z ≡ true) (natural_of z) }
+{
+    usize::try_from(z)
+}
+
 // The kept numbers of a record, unless one of them is below 0.
 impl TryFrom<&[i64; RECORD_WIDTH]> for Row {
     type Error = TryFromIntError;
 
     ghost try_from_gives = { λ l r. OkIff r (natural_row l.now ≡ true) (row_at l.now) };
 
+    #[tactic(auto, unfolding(crate::specs::Rules::natural_row, crate::specs::Rules::row_at))]
     fn try_from(numbers: &[i64; RECORD_WIDTH]) -> Result<Self, TryFromIntError> {
         let [kind, reason, _, start, end, line, column, ..] = *numbers;
         Ok(Self {
-            kind: usize::try_from(kind)?,
-            reason: usize::try_from(reason)?,
-            start: usize::try_from(start)?,
-            end: usize::try_from(end)?,
-            line: usize::try_from(line)?,
-            column: usize::try_from(column)?,
+            kind: natural(kind)?,
+            reason: natural(reason)?,
+            start: natural(start)?,
+            end: natural(end)?,
+            line: natural(line)?,
+            column: natural(column)?,
         })
     }
 }

@@ -10,6 +10,7 @@ use lib.Dec.{ltb, eqb}
 use lib.ListN.{length, take}
 use lib.Seq.{get_or-take, length-take-le}
 use Rattle.std.proofs.Common.{Option, Some, None, ℤ}
+use Rattle.std.proofs.lemmas.Bool.Decides.{nat_tests}
 use Rattle.base.specs.Choice.{pick}
 use Rattle.base.specs.Bytes.{byte, same_bytes}
 use Rattle.base.specs.Classes.{is_digit, is_lower_alpha, is_ident_part, is_duration_unit}
@@ -51,14 +52,7 @@ number_plain false = plain K.Int refl
 -- a unit's first byte belongs to the run of the units
 unit_lower : (a : ℕ) → is_duration_unit a ≡ true → is_lower_alpha a ≡ true
 unfolding is_duration_unit is_lower_alpha
-unit_lower a e =
-    or_case (((eqb a 104 || eqb a 109) || eqb a 115) || eqb a 110) (eqb a 117) e
-    (λ e. or_case ((eqb a 104 || eqb a 109) || eqb a 115) (eqb a 110) e
-    (λ e. or_case (eqb a 104 || eqb a 109) (eqb a 115) e
-    (λ e. or_case (eqb a 104) (eqb a 109) e (λ q. rw (eqb-true a 104 q)) (λ q. rw (eqb-true a 109 q)))
-    (λ q. rw (eqb-true a 115 q)))
-    (λ q. rw (eqb-true a 110 q)))
-    (λ q. rw (eqb-true a 117 q))
+unit_lower a e = grind (arith, nat_tests)
 
 no_unit_lem : is_duration_unit 0 ≡ false
 unfolding is_duration_unit

@@ -114,37 +114,26 @@ equal_high k l a h = ne_eqb a k (λ e. omega arith)
 
 space_high : (a : ℕ) → 0x80 ≤ a → is_space a ≡ false
 unfolding is_space
-space_high a h = simp (equal_high 32 (omega arith) a h, equal_high 9 (omega arith) a h, equal_high 13 (omega arith) a h)
+space_high a h = grind (arith, nat_tests)
 
 digit_high : (a : ℕ) → 0x80 ≤ a → is_digit a ≡ false
 unfolding is_digit
-digit_high a h = over 48 57 a (omega arith)
+digit_high a h = grind (arith, nat_tests)
 
 part_high : (a : ℕ) → 0x80 ≤ a → is_ident_part a ≡ false
 unfolding is_ident_part is_ident_start
-part_high a h =
-    simp (over 97 122 a (omega arith), over 65 90 a (omega arith), equal_high 95 (omega arith) a h, digit_high a h, equal_high 46 (omega arith) a h)
+part_high a h = grind (arith, nat_tests, digit_high)
 
 ends_high : (b a : ℕ) → 0x80 ≤ a → ends_timestamp a b ≡ false
 unfolding ends_timestamp
-ends_high b a h =
-    simp (
-      space_high a h,
-      equal_high 10 (omega arith) a h,
-      equal_high 44 (omega arith) a h,
-      equal_high 93 (omega arith) a h,
-      equal_high 125 (omega arith) a h,
-      equal_high 41 (omega arith) a h,
-      equal_high 35 (omega arith) a h,
-      equal_high 47 (omega arith) a h,
-    )
+ends_high b a h = grind (arith, nat_tests, space_high)
 
 close_high : (b a : ℕ) → 0x80 ≤ a → eqb a 42 && eqb b 47 ≡ false
-close_high b a h = simp (equal_high 42 (omega arith) a h)
+close_high b a h = grind (arith, nat_tests)
 
 piece_high : (b a : ℕ) → 0x80 ≤ a → (is_digit a || is_lower_alpha a) || (eqb a 46 && is_digit b) ≡ false
 unfolding is_lower_alpha
-piece_high b a h = simp (digit_high a h, over 97 122 a (omega arith), equal_high 46 (omega arith) a h)
+piece_high b a h = grind (arith, nat_tests, digit_high)
 
 -- ---- ends between characters
 

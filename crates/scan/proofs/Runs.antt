@@ -17,7 +17,7 @@ use Rattle.base.specs.Bytes.{byte}
 use Rattle.base.specs.Classes.{is_digit, is_lower_alpha, is_ident_start, is_ident_part, is_space}
 use Rattle.base.specs.Digits.{in_digits}
 use Rattle.base.specs.Runs.{reach, past}
-use Rattle.base.proofs.Tests.{and_left, and_right, true_false, over, in_text, by_cases}
+use Rattle.base.proofs.Tests.{and_left, and_right, true_false, in_text, by_cases}
 use Rattle.base.proofs.Reaches.{reach_ge, reach_step, reach_stop, reach_end, reach_fails}
 use Rattle.base.proofs.Walks.{past_step, past_stop, past_end}
 use Rattle.token.specs.Helpers.{Flat}

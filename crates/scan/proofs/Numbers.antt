@@ -15,17 +15,17 @@ use Rattle.base.specs.Choice.{pick}
 use Rattle.base.specs.Bytes.{byte, same_bytes}
 use Rattle.base.specs.Classes.{is_digit, is_lower_alpha, is_ident_part, is_duration_unit}
 use Rattle.base.specs.Digits.{in_digits}
+use Rattle.base.specs.Kinds.{begins_unit}
 use Rattle.base.specs.Runs.{reach, past}
 use Rattle.base.proofs.Reaches.{reach_ge, reach_one}
 use Rattle.base.proofs.Walks.{past_ge}
-use Rattle.base.proofs.Tests.{and_left, and_right, or_case, pick_case, true_false, in_text, no_digit}
+use Rattle.base.proofs.Tests.{by_cases, and_left, and_right, pick_case, in_text, no_digit}
 use Rattle.token.specs.Kind.{kind_number}
-use Rattle.token.specs.Helpers.{Flat}
 use Rattle.token.specs.declared.kind.TokenKind.TheVariants as K
 use Rattle.token.specs.declared.kind.TokenKind.{TokenKind}
 use Rattle.token.specs.declared.reason.Reason.{Reason}
 use Rattle.token.specs.declared.reason.Reason.TheVariants as R
-use Rattle.lexeme.specs.Lexeme.{illegal, precise}
+use Rattle.lexeme.specs.Lexeme.{whole, illegal, precise}
 use Rattle.lexeme.proofs.Within.{extent_within, illegal_within, precise_within, duration_within}
 use Rattle.go_duration.specs.Parse.{unsigned, parse_of}
 use Rattle.go_duration.proofs.Durations.{sent_digit, sent_minus}
@@ -34,11 +34,12 @@ use Rattle.rfc3339.specs.declared.parse.Instant.{Instant}
 use Rattle.scan.specs.Run.{in_stamp, unit_piece}
 use Rattle.scan.specs.Number.{lex_precision, past_fraction, at_duration_unit, duration_by, lex_duration, goes_on_float, number_kind, value_end}
 use Rattle.scan.specs.Number.{lex_tail, timestamp_by, lex_timestamp, lex_digits, at_inf, is_sign, lex_number}
+use Rattle.scan.proofs.Parts.{by_first, unit_in}
 use Rattle.scan.proofs.Flats.{flat_none}
-use Rattle.scan.proofs.Runs.{one_byte, micro, micro_in, one_turn, micro_turn}
+use Rattle.scan.proofs.Runs.{one_byte, micro, one_turn, micro_turn}
 use Rattle.scan.proofs.Goes.{Goes, goes_none, goes_then, goes_digits, goes_stamp, goes_units, goes_byte, goes_over, either_high}
 use Rattle.scan.proofs.Goes.{goes_fraction, goes_value}
-use Rattle.scan.proofs.Scanned.{Plain, plain, no_stamp, Scanned, OnLine, Ends, plain_scanned, whole_scanned, illegal_scanned}
+use Rattle.scan.proofs.Scanned.{Plain, plain, no_stamp, OnLine, Ends, plain_scanned, whole_scanned, illegal_scanned}
 
 float : Plain K.Float
 unfolding kind_number
@@ -54,30 +55,16 @@ unit_lower : (a : ℕ) → is_duration_unit a ≡ true → is_lower_alpha a ≡ 
 unfolding is_duration_unit is_lower_alpha
 unit_lower a e = grind (arith, nat_tests)
 
-no_unit_lem : is_duration_unit 0 ≡ false
-unfolding is_duration_unit
-no_unit_lem = refl
+micro_there : (s : List ℕ) (f : ℕ) → at_duration_unit (byte s f) (byte s (f + 1)) ≡ true → one_byte s f ≡ false → micro s f ≡ true
+unfolding at_duration_unit
+micro_there s f e q = grind (arith, nat_tests, unit_lower)
 
 -- and so the run goes on over it
 unit_more : (s : List ℕ) (f : ℕ) → at_duration_unit (byte s f) (byte s (f + 1)) ≡ true → f < past unit_piece s f
-unfolding at_duration_unit
-unit_more s f e = go (one_byte s f) (micro s f) refl refl
-  where
-    inside : f < length s
-    inside =
-        or_case (is_duration_unit (byte s f)) (micro s f) e (λ q. in_text is_duration_unit s f no_unit_lem q) (λ q. let h = micro_in s f q in omega arith)
-
-    one : is_duration_unit (byte s f) ≡ true → one_byte s f ≡ true
-    one q = go (is_digit (byte s f)) refl
-      where
-        go : (x : Bool) → is_digit (byte s f) ≡ x → one_byte s f ≡ true
-        go true p = rw p
-        go false p = rw (p, unit_lower (byte s f) q)
-
-    go : (x y : Bool) → one_byte s f ≡ x → micro s f ≡ y → f < past unit_piece s f
-    go true y p q = omega (arith, one_turn s f inside p, past_ge unit_piece s (f + 1))
-    go false true p q = omega (arith, micro_turn s f inside p q, past_ge unit_piece s (f + 2))
-    go false false p q = true_false (one_byte s f) (one (or_case (is_duration_unit (byte s f)) (micro s f) e (λ d. d) (λ d. true_false (micro s f) d q))) p
+unit_more s f e =
+    let h = unit_in s f (and_left (begins_unit (byte s f)) _ (rw by_first at e)) in
+    by_cases (one_byte s f) (λ q. omega (arith, one_turn s f h q, past_ge unit_piece s (f + 1)))
+    (λ q. omega (arith, micro_turn s f h q (micro_there s f e q), past_ge unit_piece s (f + 2)))
 
 -- how a number begins whose digits and fraction end at f
 pub data Begins (s : List ℕ) (f : ℕ) : Type 0 where
@@ -92,21 +79,25 @@ module _ (s : List ℕ) where
   ends_at : (e : ℕ) → 0 < e → Goes s 0 e → Ends s e
   ends_at e h g = record { some = h; inside = g.le zero-le; between = g.between }
 
-  precise_scanned : (k : TokenKind) (e n : ℕ) → Plain k → e + 1 ≤ n → Ends s n → Scanned s (precise k e n)
-  precise_scanned k e n p h g =
-      plain_scanned p (precise_within s k e n (omega arith) g.inside) g.between (no_stamp p.not_timestamp (λ q. cc))
+  whole_on_line : (k : TokenKind) (e : ℕ) → Plain k → 0 < e → Goes s 0 e → OnLine s (whole k e)
+  whole_on_line k e p h g = record { scanned = whole_scanned s e (ends_at e h g) k p; flat = g.flat (flat_none s) }
+
+  precise_on_line : (k : TokenKind) (e n : ℕ) → Plain k → e < n → Goes s 0 n → OnLine s (precise k e n)
+  precise_on_line k e n p h g =
+      record {
+        scanned = plain_scanned p (precise_within s k e n h (g.le zero-le)) g.between (no_stamp p.not_timestamp (λ q. cc));
+        flat = g.flat (flat_none s);
+      }
 
   -- a number that ends at e, before its precision
   precision_on_line : (k : TokenKind) (e : ℕ) → Plain k → 0 < e → Goes s 0 e → OnLine s (lex_precision k s e)
   unfolding lex_precision
   precision_on_line k e p h g =
-      let n = reach in_digits s (e + 1) in
-      let l = reach_ge in_digits s (e + 1) in
       pick_case (OnLine s) (eqb (byte s e) 112 && is_digit (byte s (e + 1)))
-      (λ q. let d = goes_then s g
-      (goes_then s (goes_over s 112 (omega arith) (omega arith) e (and_left (eqb (byte s e) 112) (is_digit (byte s (e + 1))) q)) (goes_digits s (e + 1))) in
-      record { scanned = precise_scanned k e n p l (ends_at n (omega arith) d); flat = d.flat (flat_none s) })
-      (λ q. record { scanned = whole_scanned s e (ends_at e h g) k p; flat = g.flat (flat_none s) })
+      (λ q. let l = reach_ge in_digits s (e + 1) in
+      let t = goes_over s 112 (omega arith) (omega arith) e (and_left (eqb (byte s e) 112) (is_digit (byte s (e + 1))) q) in
+      precise_on_line k e (reach in_digits s (e + 1)) p (omega arith) (goes_then s g (goes_then s t (goes_digits s (e + 1)))))
+      (λ q. whole_on_line k e p h g)
 
   -- the run of a duration, n bytes with a unit after the digits
   module _ (f n : ℕ) (b : Begins s f) (l : f < n) (h : n ≤ length s) where
@@ -128,22 +119,22 @@ module _ (s : List ℕ) where
         go (digit e q) = rw e
         go (minus e q) = rw e
 
-    duration_run : (p : Option ℤ) → parse_of (take n s) ≡ p → Ends s n → Scanned s (duration_by p n)
+    duration_on_line : (p : Option ℤ) → parse_of (take n s) ≡ p → Goes s 0 n → OnLine s (duration_by p n)
     unfolding kind_number
-    duration_run (Some z) e g =
+    duration_on_line (Some z) e g =
         record {
-          within = duration_within s n z g.some g.inside;
-          not_eof = λ q. absurd (omega (arith, ap kind_number q));
-          not_string = λ q. absurd (omega (arith, ap kind_number q));
-          boundary = g.between;
-          duration = λ q. record { value = e; first = begun; no_plus = sent.0; not_zero = sent.1 };
-          timestamp = no_stamp (λ q. absurd (omega (arith, ap kind_number q))) (λ q. cc);
+          scanned = record {
+            within = duration_within s n z (omega arith) h;
+            not_eof = λ q. absurd (omega (arith, ap kind_number q));
+            not_string = λ q. absurd (omega (arith, ap kind_number q));
+            boundary = g.between;
+            duration = λ q. record { value = e; first = begun; no_plus = sent.0; not_zero = sent.1 };
+            timestamp = no_stamp (λ q. absurd (omega (arith, ap kind_number q))) (λ q. cc);
+          };
+          flat = g.flat (flat_none s);
         }
-    duration_run None e g = illegal_scanned s n g R.BadDuration 0 (λ q. cc) (omega arith)
-
-  duration_flat : (p : Option ℤ) (n : ℕ) → Flat s n → Flat s (duration_by p n).len
-  duration_flat (Some z) n f = f
-  duration_flat None n f = f
+    duration_on_line None e g =
+        record { scanned = illegal_scanned s n (ends_at n (omega arith) g) R.BadDuration 0 (λ q. cc) (omega arith); flat = g.flat (flat_none s) }
 
   -- a number whose digits end at n and whose fraction ends at f
   tail_on_line : (n f : ℕ) → Begins s f → Goes s 0 f → OnLine s (lex_tail s n f)
@@ -153,44 +144,38 @@ module _ (s : List ℕ) where
       let x = ltb n f || goes_on_float (byte s f) in
       let v = goes_value s f x in
       pick_case (OnLine s) (at_duration_unit (byte s f) (byte s (f + 1)))
-      (λ e. let l = unit_more s f e in
-      record {
-        scanned = duration_run f (past unit_piece s f) b l (u.le zero-le) _ refl (ends_at (past unit_piece s f) (omega arith) u);
-        flat = duration_flat (parse_of (take (past unit_piece s f) s)) (past unit_piece s f) (u.flat (flat_none s));
-      })
+      (λ e. duration_on_line f (past unit_piece s f) b (unit_more s f e) (u.le zero-le) _ refl u)
       (λ e. precision_on_line (number_kind x) (value_end s f x) (number_plain x) (omega (arith, begins_some b, v.ge)) (goes_then s g v))
 
   -- a timestamp's run, n bytes, be it a date or none
-  run_scanned : (r : Option Instant) (n : ℕ) → date_of (take n s) ≡ r → Ends s n → Scanned s (timestamp_by r n)
+  date_on_line : (r : Option Instant) (n : ℕ) → date_of (take n s) ≡ r → 0 < n → Goes s 0 n → OnLine s (timestamp_by r n)
   unfolding kind_number
-  run_scanned (Some i) n d e =
+  date_on_line (Some i) n d h g =
       record {
-        within = extent_within s K.Timestamp n e.some e.inside 0 n 0 (omega arith) (omega arith);
-        not_eof = λ q. absurd (omega (arith, ap kind_number q));
-        not_string = λ q. absurd (omega (arith, ap kind_number q));
-        boundary = e.between;
-        duration = λ q. absurd (omega (arith, ap kind_number q));
-        timestamp = record { date = λ _. ap is_date d; none = λ q. cc };
+        scanned = record {
+          within = extent_within s K.Timestamp n h (g.le zero-le) 0 n 0 (omega arith) (omega arith);
+          not_eof = λ q. absurd (omega (arith, ap kind_number q));
+          not_string = λ q. absurd (omega (arith, ap kind_number q));
+          boundary = g.between;
+          duration = λ q. absurd (omega (arith, ap kind_number q));
+          timestamp = record { date = λ _. ap is_date d; none = λ q. cc };
+        };
+        flat = g.flat (flat_none s);
       }
-  run_scanned None n d e =
-      plain_scanned (plain K.Illegal refl)
-      (illegal_within s R.BadTimestamp 0 n 0 e.some e.inside (omega arith) (λ _. omega arith)) e.between
-      (record { date = λ q. absurd (omega arith); none = λ _. ap is_date d })
-
-  run_flat : (r : Option Instant) (n : ℕ) → Flat s n → Flat s (timestamp_by r n).len
-  run_flat (Some i) n f = f
-  run_flat None n f = f
+  date_on_line None n d h g =
+      record {
+        scanned =
+            plain_scanned (plain K.Illegal refl)
+            (illegal_within s R.BadTimestamp 0 n 0 h (g.le zero-le) (omega arith) (λ _. omega arith)) g.between
+            (record { date = λ q. absurd (omega arith); none = λ _. ap is_date d });
+        flat = g.flat (flat_none s);
+      }
 
   -- a timestamp whose first digits end at n
   timestamp_on_line : (n : ℕ) → 0 < n → Goes s 0 n → OnLine s (lex_timestamp s n)
   unfolding lex_timestamp
   timestamp_on_line n h g =
-      let e = reach in_stamp s n in
-      let t = goes_then s g (goes_stamp s n) in
-      record {
-        scanned = run_scanned (date_of (take e s)) e refl (ends_at e (omega (arith, reach_ge in_stamp s n)) t);
-        flat = run_flat (date_of (take e s)) e (t.flat (flat_none s));
-      }
+      date_on_line _ (reach in_stamp s n) refl (omega (arith, reach_ge in_stamp s n)) (goes_then s g (goes_stamp s n))
 
   -- the digits from i on, where there is one
   digits_on_line : (i : ℕ) → Goes s 0 i → is_digit (byte s i) ≡ true → ((f : ℕ) → i < f → Begins s f) → OnLine s (lex_digits s i)
@@ -234,7 +219,7 @@ module _ (s : List ℕ) where
       let d : Bool = is_digit (byte s 1) in
       pick_case (OnLine s) (is_sign (byte s 0) && at_inf s)
       (λ q. let g = inf_goes (and_left (is_sign (byte s 0)) (at_inf s) q) (and_right (is_sign (byte s 0)) (at_inf s) q) in
-      record { scanned = whole_scanned s 4 (ends_at 4 (omega arith) g) K.Float float; flat = g.flat (flat_none s) })
+      whole_on_line K.Float 4 float (omega arith) g)
       (λ _. pick_case (OnLine s) p (λ q. sign_on_line (rw q) R.PlusWithoutInf (λ t. cc))
       (λ q. pick_case (OnLine s) (m && not d) (λ r. sign_on_line (rw (q, and_left m (not d) r)) R.MinusWithoutDigit (λ t. cc))
       (λ r. go m refl q r)))

@@ -87,3 +87,6 @@ module _ (s : List ℕ) (n i f : ℕ) (u : KeptTo s n i f) where
       let e : i ≡ n = omega (arith, u.ends) in
       let z : run in_digits (drop i s) ≡ 0 = omega (arith, u.ends) in
       rw (le-ltb n n (le_refl n), ← e) (sym (read_none (drop i s) (acc f i i false) z) ∙ u.ran)
+
+-- what `leading_fraction` needs at each turn and each return
+pub ruleset keeping = (kept_zeros, kept_inside, kept_digit, kept_more, kept_over, kept_all)

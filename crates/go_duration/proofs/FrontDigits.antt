@@ -116,3 +116,6 @@ module _ (s : List ℕ) where
   pub over_told : None ≡ leading_int s → most < whole_of s
   unfolding leading_int
   over_told e = ltb-true most (whole_of s) (pick_first (ltb most (whole_of s)) (λ z. none-some _ (sym z)) (sym e)).0
+
+-- what `leading_int` needs at each turn and each return
+pub ruleset reading = (reading_first, reading_stop, reading_more, reading_over, reading_end)

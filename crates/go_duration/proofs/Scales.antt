@@ -66,3 +66,6 @@ all_36 = tt
 pub scale_small : (k : ℕ) → k < 36 → Scale (scale_of k) (10 ^ k)
 unfolding ok_at
 scale_small k h = ok→ (scale_of k) (10 ^ k) (all_below ok_at 36 all_36 k h)
+
+-- what `scale_of` needs at each turn and at the return
+pub ruleset scaling = (scale_step, scale_stays)

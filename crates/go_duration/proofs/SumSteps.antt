@@ -3,6 +3,7 @@
 use Rattle.std.proofs.Common.{◌≡◌, ℕ, zero, suc, ◌+◌, ◌-◌, ◌<◌, ◌≤◌, true, false, Some, None, eqb, ltb, List, [], ◌∷◌, length, drop, sym, refl, ap, ◌∙◌, not-suc-le-zero, sub-one, pos_of_ne-zero, arith, length-drop, eqb-true, le-ltb, lt-ltb}
 use borrow.Author.Tests.{eqb-false}
 use Rattle.base.specs.Choice.{pick}
+use Rattle.base.proofs.Reaches.{rest_is}
 use Rattle.go_duration.specs.Fraction.{most}
 use Rattle.go_duration.specs.Parse.{part_of, sum_from}
 use Rattle.go_duration.specs.declared.part.Part.{Part}
@@ -72,3 +73,6 @@ module _ (s : List ℕ) (d : ℕ) (rest : List ℕ) (g : Summing s d rest) where
           let b = g.fits in
           let k : d + p.nanos ≤ most = omega arith in
           record { fits = k; ran = rw (le-ltb most (d + p.nanos) k) at step }
+
+-- what `sum` needs at each turn and each return
+pub ruleset summing = (rest_is, summing_end, summing_bad, summing_ends, summing_above, summing_less, summing_next)

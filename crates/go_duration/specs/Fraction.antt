@@ -44,6 +44,7 @@ more f b = f * 10 + (b - code "0")
 abbrev pub room : ℕ → ℕ → Bool
 room f b = nat_le f 922337203685477580 && nat_le (more f b) most
 
+-- Apart from the code's `Fraction`, since it is the rule's own.
 -- f: the number of the kept digits; k: how many those are; n: how many digits there are; o: whether some were dropped
 pub data Acc : Type 0 where
   acc : (f k n : ℕ) → Bool → Acc

@@ -48,6 +48,7 @@ impl Fraction {
 }
 
 // 1.0 multiplied `k` times by 10.0. An infinity stays one.
+#[tactic(auto, unfolding(crate::specs::Fraction::scale_of), using(crate::proofs::Scales::scaling))]
 fn scale_of(k: usize) -> f64
     ensures { result ≡ scale_of k }
 {
@@ -67,6 +68,7 @@ fn zeros(s: &[u8]) -> usize
 
 // Go's `leadingFraction`: the digits at the front of `s`. The zeros there, which may be many, form 0 and need no sums, and neither do the digits
 // behind one that does not fit.
+#[tactic(auto, using(crate::proofs::DigitSteps::keeping))]
 pub fn leading_fraction(s: &[u8]) -> Fraction
     ensures { acc_of result.f result.kept result.count ≡ read_digits s.now no_digits }
 {

@@ -8,11 +8,13 @@ use crate::MOST;
 use crate::part::{Part, next_part};
 
 // The sum of the parts of `s`. A sum above 2^63 is refused before it is made, since it could wrap.
+#[tactic(auto, using(crate::proofs::SumSteps::summing))]
 pub fn sum(s: &[u8]) -> Option<u64>
     ensures { result ≡ sum_from 0 0 s.now }
 {
     let mut d = 0;
     let mut rest = s;
+    // A `while`: the step is the length of the part that was found.
     while !rest.is_empty() {
         let Part { nanos, used } = next_part(rest)?;
         if nanos > MOST - d {

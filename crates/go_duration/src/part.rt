@@ -28,6 +28,7 @@ pub struct Whole {
 }
 
 // Go's `leadingInt`: the number of the digits at the front of `s`, unless it is above 2^63.
+#[tactic(auto, using(crate::proofs::FrontDigits::reading))]
 pub fn leading_int(s: &[u8]) -> Option<Whole>
     ensures { result ≡ leading_int s.now }
 {

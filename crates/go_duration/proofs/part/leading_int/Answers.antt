@@ -1,23 +1,12 @@
 -- `leading_int` is `leading_int`: the digits from `used` on, after `value`, write the whole number. A number that is above 2^63 stays above it.
 -- Assumes nothing.
-use Rattle.std.proofs.Common.{sym, ◌∙◌}
-use Rattle.go_duration.proofs.FrontDigits.{reading_first, reading_stop, reading_more, reading_over, reading_end}
+use Rattle.std.proofs.Common.{sym}
+use Rattle.go_duration.proofs.FrontDigits.{reading_first, reading_more}
 use Rattle.go_duration.proofs.part.leading_int.Goals as goal
 
 pub loop-used-init : goal.loop-used-init
 loop-used-init c = search reading_first
 
-pub returns-then-not-is_digit : goal.returns-then-not-is_digit
-returns-then-not-is_digit c = reading_stop _ _ _ c.loop-used.invariant c.loop-used-test.true (sym c.if-not-is_digit.ensures)
-
-pub returns-in_err-value : goal.returns-in_err-value
-returns-in_err-value c =
-    c.from_residual.ensures
-    ∙ reading_over _ _ _ c.loop-used.invariant c.loop-used-test.true (sym c.if-not-is_digit.ensures) c.in_err-value.ensures
-
 pub loop-used-preserved : goal.loop-used-preserved
 loop-used-preserved c =
     reading_more _ _ _ c.loop-used.invariant c.loop-used-test.true (sym c.if-not-is_digit.ensures) _ c.in_ok-value.ensures
-
-pub returns : goal.returns
-returns c = search reading_end

@@ -49,6 +49,7 @@ pub fn past_blocks<R: Run>(run: R, s: &[u8], at: usize) -> usize
     ensures { Ahead (R.has run) s.now at result }
 {
     let mut i = at;
+    // A `while`, as in `past_windows`: a block is tested with the byte after it, so that chunks of the library would overlap.
     while BLOCK < s.len() - i {
         let end = i + BLOCK;
         let next = end + 1;

@@ -10,6 +10,8 @@ use Rattle.base.proofs.Tests.{by_cases, and-true, and-false}
 use Rattle.go_duration.specs.Fraction.{most}
 use Rattle.go_duration.specs.Parse.{sum_from, sign_of, with_sign, unsigned, parse_of}
 use Rattle.go_duration.specs.Stages.{parse_unsigned}
+use Rattle.std.proofs.lemmas.Bool.Decides.{nat_tests}
+use Rattle.go_duration.proofs.WrittenRuns.{sum_fits}
 
 -- ---- the sign: a 64-bit number holds what `with_sign` gives
 under_minus : (d : ℕ) → d ≤ most → SFits w64 (pos 0 -ℤ pos d)
@@ -67,3 +69,8 @@ module _ (run : List ℕ) where
 pub run_none : (run : List ℕ) → length run < 1 → parse_unsigned false run ≡ parse_of run
 run_none [] h = run_plain [] (λ e. omega arith) (λ e. omega arith)
 run_none (b ∷ run) h = absurd (omega arith)
+
+-- what `parse` needs at each return, and `unsigned_run`
+pub ruleset signs = (run_plain, run_none, nat_tests)
+
+pub ruleset runs = (run_empty, run_zero, sum_fits)

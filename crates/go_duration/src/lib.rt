@@ -14,6 +14,7 @@ pub mod part;
 const MOST: u64 = 9223372036854775808;
 
 // `x` with the digit `c` behind it, unless that is above 2^63. The first test stands before the sum, which could wrap.
+#[tactic(auto, using(base::proofs::Tests::digit_range))]
 fn with_digit(x: u64, c: u8) -> Option<u64>
     requires { IsTrue (is_digit c) }
     ensures { result ≡ pick (room x c) (Some (more x c)) None }

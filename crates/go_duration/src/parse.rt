@@ -36,6 +36,7 @@ fn signed(d: u64, neg: bool) -> Option<i64>
 }
 
 // What `s`, the run after its sign, is under that sign.
+#[tactic(auto, using(crate::proofs::RunSteps::runs))]
 fn unsigned_run(s: &[u8], neg: bool) -> Option<i64>
     ensures { result ≡ parse_unsigned neg s.now }
 {
@@ -47,6 +48,7 @@ fn unsigned_run(s: &[u8], neg: bool) -> Option<i64>
 }
 
 // The nanoseconds of a run, or none.
+#[tactic(auto, using(crate::proofs::RunSteps::signs))]
 pub fn parse(run: &[u8]) -> Option<i64>
     ensures { result ≡ parse_of run.now }
 {

@@ -86,6 +86,7 @@ fn fraction_at(s: &[u8], at: usize) -> (Fraction, usize)
 }
 
 // The nanoseconds of so many units and a fraction of one, unless they are above 2^63.
+#[tactic(auto, using(crate::proofs::PartSteps::nanos_over, crate::proofs::PartSteps::nanos_sum))]
 fn nanos_part(value: u64, digits: Fraction, unit: u64) -> Option<u64>
     requires { UnitNanos unit }
     ensures { result ≡ nanos_part value (acc_of digits.f digits.kept digits.count) unit }

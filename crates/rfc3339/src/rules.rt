@@ -13,7 +13,7 @@ use base::peek;
 // How many digits a second's nanoseconds have.
 const NANO_DIGITS: usize = 9;
 
-// The number of a digit.
+// The number of a digit. Under a `requires` and no `Option`: an `unwrap` in `nanos` tests again when it runs, five instructions a digit.
 #[tactic(auto, using(base::proofs::Tests::digit_range))]
 fn digit(b: u8) -> usize
     requires { is_digit b ≡ true }
@@ -122,7 +122,7 @@ impl<'a> FullTime<'a> {
         }
     }
 
-    // The seconds of the time of day.
+    // The seconds of the time of day. By `peek`: of slice patterns on `get(h..)` fourteen goals stayed open, here and in `time_offset`.
     #[tactic(auto, using(crate::proofs::Steps::time_steps))]
     pub fn partial_time(&self) -> Option<usize>
         ensures seconds { result ≡ partial_time self.now.run.now }

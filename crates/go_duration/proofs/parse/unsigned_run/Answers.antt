@@ -3,8 +3,7 @@ use Rattle.std.proofs.Common.{◌≡◌, ℕ, Option, Some, None, ap, ◌∙◌,
 use Rattle.std.proofs.lemmas.Bool.Decides.{nat_tests}
 use Rattle.go_duration.specs.Parse.{sum_from, with_sign}
 use Rattle.go_duration.specs.Stages.{parse_unsigned}
-use Rattle.go_duration.proofs.RunSteps.{run_empty, run_zero, run_sum}
-use Rattle.go_duration.proofs.WrittenRuns.{sum_fits}
+use Rattle.go_duration.proofs.RunSteps.{run_sum}
 use Rattle.go_duration.proofs.parse.unsigned_run.Goals.{In_default, in_default-via-then-s-lt2+in_default-1, in_default-via-else-s-lt2}
 use Rattle.go_duration.proofs.parse.unsigned_run.Goals as goal
 
@@ -16,15 +15,6 @@ summed c t e =
       | in_default-via-then-s-lt2+in_default-1 w ↦ run_sum _ _ (λ z. grind (arith, nat_tests)) (λ z y. grind (arith, nat_tests))
       | in_default-via-else-s-lt2 w ↦ run_sum _ _ (λ z. grind (arith, nat_tests)) (λ z y. grind (arith, nat_tests))
     ]
-
-pub returns-in-empty : goal.returns-in-empty
-returns-in-empty c = run_empty _ _ (omega arith)
-
-pub returns-in-48 : goal.returns-in-48
-returns-in-48 c = run_zero _ _ (omega arith) (omega arith)
-
-pub signed-requires : goal.signed-requires
-signed-requires c = sum_fits _ _ c.in_ok-sum-in_default.ensures
 
 pub returns-in_err-sum-in_default : goal.returns-in_err-sum-in_default
 unfolding with_sign

@@ -1,9 +1,9 @@
-// Numbers as bytes, the lowest byte first.
+// Numbers as bytes, the lowest byte first. One after the other they are written to one buffer and read from one file, at offsets that the layout gives.
 ghost use Rattle.std.specs.Prelude.{◌≡◌, ◌+◌, ◌≤◌, ◌<◌, ◌^◌, length};
 ghost use Rattle.std.proofs.lemmas.List.Edits.{sets};
 ghost use Rattle.token_file.specs.Format.{little, number_at};
 
-// Writes `n` as `width` bytes from `at` on.
+// Writes `n` as `width` bytes from `at` on: any width, where `to_le_bytes` has eight bytes. The cast is of a number below 256.
 pub fn put_little(out: &mut [u8], at: usize, width: usize, n: usize)
     requires { at + width ≤ length out.old }
     ensures { out.new ≡ sets out.old at (little width n) }
@@ -15,7 +15,7 @@ pub fn put_little(out: &mut [u8], at: usize, width: usize, n: usize)
     }
 }
 
-// The number of `width` bytes from `at` on. Eight bytes are the most that fit.
+// The number of `width` bytes from `at` on. Eight bytes are the most that fit, and `from_le_bytes` wants all eight.
 pub fn get_little(file: &[u8], at: usize, width: usize) -> usize
     requires { (at + width ≤ length file.now) × (width ≤ 8) }
     ensures { (result ≡ number_at file.now at width) × (result < 256 ^ width) }

@@ -14,7 +14,7 @@ use crate::row::Row;
 use base::answer::Numbered;
 use token::layout::{RECORD_WIDTH, Record};
 
-// Why no token file is read.
+// Why no token file is read. Other cases and numbers than the writer's.
 #[derive(Clone, Copy, PartialEq, Eq, Debug)]
 pub enum ReadRefusal {
     // The frame of the file is wrong.
@@ -109,7 +109,7 @@ impl<'a> Framed<'a> {
         self.count != 0
     }
 
-    // Stores the records of the rows.
+    // Stores the records of the rows: numbers, where the writer's loop stores bytes.
     fn store(&self, tokens: &mut [i64])
         requires { self.now.count * record_width ≤ length tokens.old }
         ensures { tokens.new ≡ sets tokens.old 0 (rows_numbers (bytes_rows self.now.layout self.now.count (drop header_width self.now.file.now))) }

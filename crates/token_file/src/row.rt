@@ -12,6 +12,7 @@ use token::{kind, reason};
 // The last line and the last column: both count from 1.
 const LAST_PLACE: usize = MAX_MESSAGE_SIZE + 1;
 
+// The kept numbers. Kind and reason are no enums here: a file can have any numbers, and the rules judge them.
 #[derive(Clone, Copy)]
 pub struct Row {
     pub kind: usize,
@@ -49,7 +50,7 @@ impl TryFrom<&[i64; RECORD_WIDTH]> for Row {
     }
 }
 
-// The record of these numbers, with 0 for those that a token file does not keep.
+// The record of these numbers, with 0 for those that a token file does not keep. Another type: half of a record's numbers are no part of a row.
 impl From<Row> for Record {
     ghost from_gives = { λ row r. r ≡ filled row };
 

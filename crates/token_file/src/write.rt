@@ -11,7 +11,7 @@ use crate::records::Records;
 use crate::row::Row;
 use base::answer::Numbered;
 
-// Why no token file is written.
+// Why no token file is written. Other cases and numbers than the reader's.
 #[derive(Clone, Copy, PartialEq, Eq, Debug)]
 pub enum WriteRefusal {
     // The records break the record rules, or the slice is too short for them.
@@ -71,7 +71,7 @@ fn put_rows(out: &mut [u8], y: Layout, records: Records)
     }
 }
 
-// Writes the token file of `count` records into `out`. Refuses 8, 9 and 10 in this order, and then writes nothing.
+// Writes the token file of `count` records into `out`; C lends a slice and says the count. Refuses 8, 9 and 10 in this order, and then writes nothing.
 pub fn write_token_file(
     records: &[i64],
     count: usize,

@@ -2,6 +2,8 @@
 -- within it; a tolerant one never at a bad escape. By steps of `decode`. Assumes nothing.
 use mathlib.Core.Path.{◌≡◌, refl}
 use mathlib.Core.List.{List}
+use Rattle.std.proofs.Common.{Option, Some, None}
+use Rattle.base.proofs.Tests.{zero_one}
 use Prim.Native.Nat.{ℕ, ◌+◌, ◌-◌, ◌≤◌, ◌<◌}
 use native.Mathlib.Omega.{arith}
 use lib.Dec.{lit≤}
@@ -10,9 +12,11 @@ use Rattle.base.specs.Bytes.{byte}
 use Rattle.utf8.specs.Character.{octets_of}
 use Rattle.utf8.specs.declared.character.Encoded.{Encoded}
 use Rattle.token.specs.Reason as reasons
+use Rattle.token.specs.Reason.{reason_number, number_of}
+use Rattle.token.specs.declared.reason.Reason.{Reason}
 use Rattle.lexeme.specs.declared.Mode.{Mode}
 use Rattle.lexeme.specs.declared.Mode.TheVariants.{Strict, Tolerant}
-use Rattle.strings.specs.Decode.{Decoded, letter_detail, step_notes, prepend, stopped}
+use Rattle.strings.specs.Decode.{Decoded, step_notes, prepend, stopped}
 use Rattle.strings.specs.Literal.{literal_of, end_reason, end_detail, literal_end}
 use Rattle.strings.specs.declared.literal.End.{End}
 use Rattle.strings.specs.declared.literal.End.TheVariants as end
@@ -25,10 +29,10 @@ pub record Bounds (s : List ℕ) (i : ℕ) (d : Decoded) : Type 0 where
   pub bytes_in : i + length d.bytes ≤ d.stop
   pub notes_in_lem : i + length d.notes ≤ d.stop
   pub upto : d.stop ≤ length s
-  pub reason : end_reason d.ending ≤ reasons.open_string
+  pub reason : number_of (end_reason d.ending) ≤ reasons.open_string
 
-reason_le : (m : Mode) (l : List ℕ) (e : End) → Named m l e → end_reason e ≤ reasons.open_string
-unfolding end_reason
+reason_le : (m : Mode) (l : List ℕ) (e : End) → Named m l e → number_of (end_reason e) ≤ reasons.open_string
+unfolding end_reason reason_number
 reason_le m l end.Closed n = lit≤ tt
 reason_le m l end.AtNewline n = lit≤ tt
 reason_le m l end.Cut n = lit≤ tt
@@ -43,7 +47,7 @@ bounds m s = by_steps m s (Bounds s) stops goes
     stops i e p h g u =
         record { bytes_in = omega arith; notes_in_lem = omega arith; upto = omega (arith, u.upto, length-drop i s); reason = reason_le m (drop i s) e u.named }
 
-    goes : (i : ℕ) (enc : Encoded) (used reason : ℕ) (r : Decoded) → i ≤ length s → Went (drop i s) enc used reason → Bounds s (i + used) r
+    goes : (i : ℕ) (enc : Encoded) (used : ℕ) (reason : Option Reason) (r : Decoded) → i ≤ length s → Went (drop i s) enc used reason → Bounds s (i + used) r
         → Bounds s i (prepend (octets_of enc) (step_notes reason (byte enc.bytes 1) i) r)
     goes i enc used reason r h w v =
         let t : Taken enc.len used (length (drop i s)) = w.taken in
@@ -66,7 +70,7 @@ pub record Sound (s : List ℕ) (e : End) : Type 0 where
   pub detail : end_detail e ≡ 0
   pub stays : (x : ℕ) → literal_end s e x ≡ x
 
-other_sound : (s : List ℕ) (e : End) → ((reason letter : ℕ) → e ≡ end.Bad reason letter → Sound s e) → Sound s e
+other_sound : (s : List ℕ) (e : End) → ((reason : Reason) (letter : ℕ) → e ≡ end.Bad reason letter → Sound s e) → Sound s e
 unfolding end_detail literal_end
 other_sound s end.Closed f = record { detail = refl; stays = λ x. refl }
 other_sound s end.AtNewline f = record { detail = refl; stays = λ x. refl }
@@ -75,9 +79,9 @@ other_sound s end.Open f = record { detail = refl; stays = λ x. refl }
 other_sound s (end.Bad reason letter) f = f reason letter refl
 
 -- a strict ending without a reason is none
-pub zero_sound : (s : List ℕ) (e : End) → end_reason e ≡ reasons.none → Sound s e
-unfolding end_reason end_detail literal_end letter_detail
-zero_sound s e z = other_sound s e (λ r l q. let n : r ≡ reasons.none = rw q at z in rw (q, n) (record { detail = refl; stays = λ x. refl }))
+pub zero_sound : (s : List ℕ) (e : End) → end_reason e ≡ None → Sound s e
+unfolding end_reason
+zero_sound s e z = other_sound s e (λ r l q. let n : Some r ≡ None = rw q at z in zero_one (cc))
 
 -- a tolerant one is none
 pub tolerant_sound : (s : List ℕ) → 0 < length s → Sound s (literal_of Tolerant s).ending

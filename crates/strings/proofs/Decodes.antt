@@ -3,6 +3,7 @@
 use mathlib.Core.Path.{◌≡◌, refl, sym, ap, ◌∙◌, subst}
 use mathlib.Core.Bool.{Bool, true, false, not, ◌&&◌}
 use mathlib.Core.List.{List, [], ◌∷◌}
+use Rattle.std.proofs.Common.{Option, Some, None}
 use Prim.Native.Nat.{ℕ, zero, suc, ◌+◌, ◌-◌, ◌*◌, ◌≤◌, ◌<◌}
 use native.Mathlib.Nat.{add-zero, add-suc, suc-add}
 use native.Mathlib.Omega.{arith}
@@ -14,15 +15,18 @@ use Rattle.base.specs.Choice.{pick}
 use Rattle.base.specs.Bytes.{byte}
 use Rattle.base.specs.Runs.{run, reach}
 use Rattle.base.proofs.Reaches.{reach_le, reach_ge}
-use Rattle.base.proofs.Tests.{and_left, and_right, pick_case, true_false}
+use Rattle.base.proofs.Tests.{and_left, and_right, zero_one}
 use Rattle.utf8.specs.Character.{octets_of}
 use Rattle.utf8.specs.declared.character.Encoded.{Encoded}
 use Rattle.token.specs.Reason as reasons
+use Rattle.token.specs.Reason.{reason_number, is_unknown_escape}
+use Rattle.token.specs.declared.reason.Reason.{Reason}
 use Rattle.lexeme.specs.Lexeme.{Note}
 use Rattle.lexeme.specs.declared.Mode.{Mode}
 use Rattle.lexeme.specs.declared.Mode.TheVariants.{Strict, Tolerant}
 use Rattle.strings.specs.Piece.{simple_of, bytes_piece, escape_piece, piece_of}
 use Rattle.strings.specs.Plain.{is_ordinary, in_ordinary, simple_at, simple_bytes}
+use Rattle.strings.specs.Plain as plain
 use Rattle.strings.specs.Decode.{Decoded, step_of, step_notes, prepend, stopped, follow, decode}
 use Rattle.strings.specs.Literal.{end_reason}
 use Rattle.strings.specs.declared.piece.Piece.{Piece}
@@ -36,11 +40,10 @@ use Rattle.strings.proofs.PieceFacts.{PieceFacts, Taken, Front, piece_facts}
 -- ---- what a step takes, and how it ends a literal
 
 -- a step that goes on, at the front of l
-pub record Went (l : List ℕ) (enc : Encoded) (used reason : ℕ) : Type 0 where
+pub record Went (l : List ℕ) (enc : Encoded) (used : ℕ) (reason : Option Reason) : Type 0 where
   pub taken : Taken enc.len used (length l)
   pub count : length (octets_of enc) ≡ enc.len
-  pub small : reason ≤ reasons.unknown_escape
-  pub named : (reason ≡ reasons.none → ⊥) → byte enc.bytes 1 ≡ byte l 1
+  pub named : (r : Reason) → reason ≡ Some r → byte enc.bytes 1 ≡ byte l 1
 
 -- the first k bytes of l end where a character can: at the end of l, after an ASCII byte or before one
 pub data Clean (l : List ℕ) (k : ℕ) : Type 0 where
@@ -49,9 +52,8 @@ pub data Clean (l : List ℕ) (k : ℕ) : Type 0 where
   before : byte l k < 0x80 → Clean l k
 
 -- the reason and the letter of a bad escape that ends a literal, which only a strict one can have
-pub record Blamed (l : List ℕ) (reason letter : ℕ) : Type 0 where
-  pub low : reasons.bad_x ≤ reason
-  pub high : reason ≤ reasons.unknown_escape
+pub record Blamed (l : List ℕ) (reason : Reason) (letter : ℕ) : Type 0 where
+  pub high : reason_number reason ≤ reasons.unknown_escape
   pub named : letter ≡ byte l 1
 
 abbrev pub Named : Mode → List ℕ → End → Type 0
@@ -66,7 +68,7 @@ Named Tolerant l (end.Bad reason letter) = ⊥
 pub record Ended (m : Mode) (l : List ℕ) (e : End) (k : ℕ) : Type 0 where
   pub upto : k ≤ length l
   pub named : Named m l e
-  pub clean : (end_reason e ≡ reasons.unknown_escape → ⊥) → Clean l k
+  pub clean : ((r : Reason) → end_reason e ≡ Some r → is_unknown_escape r ≡ false) → Clean l k
 
 -- what a step at the offset `at` is, l being left
 abbrev Apt : Mode → ℕ → List ℕ → Step → Type 0
@@ -87,16 +89,16 @@ module _ (m : Mode) (at : ℕ) (l : List ℕ) (e : End) (named : Named m l e) (f
 
 apt : (m : Mode) (at : ℕ) (l : List ℕ) (q : Piece) → PieceFacts l q → Apt m at l (step_of m at q)
 unfolding step_of end_reason
-apt m at l (piece.Bytes enc used) f = record { taken = f.bytes; count = f.count; small = lit≤ tt; named = λ z. absurd (z refl) }
-apt Tolerant at l (piece.Bad reason letter used) f = record { taken = f.bytes; count = refl; small = f.high; named = λ _. f.named }
+apt m at l (piece.Bytes enc used) f = record { taken = f.bytes; count = f.count; named = λ r z. zero_one (cc) }
+apt Tolerant at l (piece.Bad reason letter used) f = record { taken = f.bytes; count = refl; named = λ _ _. f.named }
 apt Strict at l (piece.Bad reason letter used) f =
     let k : at + used - at ≡ used = omega arith in (
       omega arith,
       rw k
           (record {
             upto = f.bytes.left;
-            named = record { low = f.low; high = f.high; named = f.named };
-            clean = λ n. after f.bytes.some (f.last n);
+            named = record { high = f.high; named = f.named };
+            clean = λ n. after f.bytes.some (f.last (n reason refl));
           }),
     )
 apt m at l piece.Close f = ends_after m at l end.Closed tt f
@@ -137,7 +139,7 @@ module _ (m : Mode) (s : List ℕ) (i : ℕ) {q : Step} (is : q ≡ step_of m i 
   pub from_stop : {e : End} {p : ℕ} → q ≡ Stop e p → from m s i ≡ stopped e p
   from_stop h = decode_at m i (drop i s) ∙ rw (sym is ∙ h)
 
-  module _ {enc : Encoded} {used reason : ℕ} (h : q ≡ Go enc used reason) where
+  module _ {enc : Encoded} {used : ℕ} {reason : Option Reason} (h : q ≡ Go enc used reason) where
     pub went : Went (drop i s) enc used reason
     went = subst (λ (x : Step). Apt m i (drop i s) x) h fit
 
@@ -169,7 +171,7 @@ module _ (m : Mode) (s : List ℕ) (i : ℕ) {q : Step} (is : q ≡ step_of m i 
 
 module _ (m : Mode) (s : List ℕ) (P : ℕ → Decoded → Type 0)
     (stops : (i : ℕ) (e : End) (p : ℕ) → i ≤ length s → i ≤ p → Ended m (drop i s) e (p - i) → P i (stopped e p))
-    (goes : (i : ℕ) (enc : Encoded) (used reason : ℕ) (r : Decoded) → i ≤ length s → Went (drop i s) enc used reason → P (i + used) r
+    (goes : (i : ℕ) (enc : Encoded) (used : ℕ) (reason : Option Reason) (r : Decoded) → i ≤ length s → Went (drop i s) enc used reason → P (i + used) r
     → P i (prepend (octets_of enc) (step_notes reason (byte enc.bytes 1) i) r)) where
   step : (n i : ℕ) → length s ≤ i + n → i ≤ length s → ((j : ℕ) → length s + 1 ≤ j + n → j ≤ length s → P j (from m s j))
       → (q : Step) → q ≡ step_of m i (piece_of (drop i s)) → Apt m i (drop i s) q → P i (from m s i)
@@ -243,26 +245,28 @@ module _ (s : List ℕ) (i e : ℕ) (ee : e ≡ reach in_ordinary s i) where
 
 -- a claim of each escape makes the claim of all that follow each other at the front
 module _ (P : List ℕ → List ℕ → Type 0) (ends : (l : List ℕ) → P l [])
-    (more : (x y : ℕ) (l : List ℕ) → eqb (simple_at x y) 0 ≡ false → P l (simple_bytes l) → P (x ∷ y ∷ l) (simple_at x y ∷ simple_bytes l)) where
+    (more : (x y b : ℕ) (l : List ℕ) → simple_at x y ≡ Some b → P l (simple_bytes l) → P (x ∷ y ∷ l) (b ∷ simple_bytes l)) where
   pub by_escapes : (l : List ℕ) → P l (simple_bytes l)
   unfolding simple_bytes
   by_escapes [] = ends []
   by_escapes (x ∷ []) = ends (x ∷ [])
-  by_escapes (x ∷ y ∷ l) =
-      let rest = by_escapes l in
-      pick_case (P (x ∷ y ∷ l)) (eqb (simple_at x y) 0) (λ _. ends (x ∷ y ∷ l)) (λ e. more x y l e rest)
+  by_escapes (x ∷ y ∷ l) = go (simple_at x y) refl (by_escapes l)
+    where
+      go : (v : Option ℕ) → simple_at x y ≡ v → P l (simple_bytes l) → P (x ∷ y ∷ l) (plain.before v (simple_bytes l))
+      go None e ih = ends (x ∷ y ∷ l)
+      go (Some b) e ih = more x y b l e ih
 
 simple_le : (l : List ℕ) → 2 * length (simple_bytes l) ≤ length l
-simple_le = by_escapes (λ l v. 2 * length v ≤ length l) (λ l. omega arith) (λ x y l e ih. omega arith)
+simple_le = by_escapes (λ l v. 2 * length v ≤ length l) (λ l. omega arith) (λ x y b l e ih. omega arith)
 
 -- an escape of one letter
-simple_piece : (x y : ℕ) (l : List ℕ) → eqb (simple_at x y) 0 ≡ false → piece_of (x ∷ y ∷ l) ≡ bytes_piece (simple_at x y ∷ []) 2
+simple_piece : (x y b : ℕ) (l : List ℕ) → simple_at x y ≡ Some b → piece_of (x ∷ y ∷ l) ≡ bytes_piece (b ∷ []) 2
 unfolding simple_at piece_of escape_piece
-simple_piece x y l e = go (eqb x 0x5C) refl e
+simple_piece x y b l e = go (eqb x 0x5C) refl e
   where
-    go : (b : Bool) → eqb x 0x5C ≡ b → eqb (pick b (simple_of y) 0) 0 ≡ false → piece_of (x ∷ y ∷ l) ≡ bytes_piece (pick b (simple_of y) 0 ∷ []) 2
+    go : (t : Bool) → eqb x 0x5C ≡ t → pick t (simple_of y) None ≡ Some b → piece_of (x ∷ y ∷ l) ≡ bytes_piece (b ∷ []) 2
     go true q f = let z = eqb-true x 0x5C q in rw (z, eqb-suc-zero (length l), f)
-    go false q f = true_false true refl f
+    go false q f = zero_one (cc)
 
 -- as many as there are
 decode_simple : (m : Mode) (l : List ℕ) (at : ℕ)
@@ -271,11 +275,11 @@ unfolding decode step_of step_notes
 decode_simple m =
     by_escapes (λ l v. (at : ℕ) → decode m at 0 l ≡ prepend v [] (decode m (at + 2 * length v) 0 (drop (2 * length v) l)))
     (λ l at. rw add-zero)
-    (λ x y l e ih at.
+    (λ x y b l e ih at.
     let n : ℕ = length (simple_bytes l) in
     let k : 2 * suc n ≡ suc (suc (2 * n)) = omega arith in
     let j : suc (suc at) + 2 * n ≡ at + suc (suc (2 * n)) = omega arith in
-    rw (simple_piece x y l e, k) (ap (prepend (simple_at x y ∷ []) []) (ih (suc (suc at)) ∙ rw j)))
+    rw (simple_piece x y b l e, k) (ap (prepend (b ∷ []) []) (ih (suc (suc at)) ∙ rw j)))
 
 module _ (s : List ℕ) (i n : ℕ) (h : i ≤ length s) (e : n ≡ length (simple_bytes (drop i s))) where
   pub simple_in : i + 2 * n ≤ length s

@@ -2,17 +2,19 @@
 use mathlib.Core.Path.{◌≡◌, refl, sym, ap, ◌∙◌}
 use mathlib.Core.Bool.{Bool, true, false, not}
 use mathlib.Core.List.{List}
+use Rattle.std.proofs.Common.{Option, Some, None}
 use Prim.Native.Nat.{ℕ, ◌+◌, ◌^◌, ◌≤◌, ◌<◌}
 use native.Mathlib.Omega.{arith}
-use borrow.Author.Tests.{eq-eqb, ne_eqb, not-true, not-false}
+use borrow.Author.Tests.{not-true, not-false}
 use lib.ListN.{length, length-append}
 use mir.Syntax.{w64}
 use mir.Val.{Fits}
 use Rattle.utf8.specs.State.{is_between}
 use Rattle.utf8.specs.declared.state.State.TheVariants.{Between}
 use Rattle.utf8.proofs.States.{state_law}
-use Rattle.token.specs.Reason as reasons
 use Rattle.token.specs.declared.kind.TokenKind.TheVariants as K
+use Rattle.token.specs.declared.reason.Reason.{Reason}
+use Rattle.token.specs.declared.reason.Reason.TheVariants as R
 use Rattle.lexeme.specs.Lexeme.{extent, illegal_reported, illegal}
 use Rattle.lexeme.specs.declared.Lexeme.{Lexeme}
 use Rattle.lexeme.specs.declared.Mode.TheVariants.{Strict, Tolerant}
@@ -40,31 +42,31 @@ module _ (d : Decoded) (m : Measure) (em : m ≡ measured 0 0 Between d) where
   reported : m.reports ≡ length d.notes
   reported = rw em (omega arith)
 
-module _ (s : List ℕ) (m : Measure) (em : m ≡ measured 0 0 Between (literal_of Strict s)) (reason : ℕ) (er : reason ≡ end_reason m.end) where
-  same_reason : end_reason (literal_of Strict s).ending ≡ reason
+module _ (s : List ℕ) (m : Measure) (em : m ≡ measured 0 0 Between (literal_of Strict s)) (found : Option Reason) (er : found ≡ end_reason m.end) where
+  same_reason : end_reason (literal_of Strict s).ending ≡ found
   same_reason = rw (← ended (literal_of Strict s) m em) (sym er)
 
-  pub strict_bad : (k x : ℕ) (r : Lexeme) → (reason ≡ reasons.none → ⊥) → k ≡ end_detail m.end → x ≡ literal_end s m.end m.stop → r ≡ illegal reason k x
-      → r ≡ lex_string Strict s
+  pub strict_bad : (reason : Reason) (k x : ℕ) (r : Lexeme) → found ≡ Some reason → k ≡ end_detail m.end → x ≡ literal_end s m.end m.stop
+      → r ≡ illegal reason k x → r ≡ lex_string Strict s
   unfolding lex_string literal_reason literal_notes
-  strict_bad k x r n ek ex e =
-      e ∙ simp (same_reason, ne_eqb reason reasons.none n, ek, ex, ended (literal_of Strict s) m em, stopped (literal_of Strict s) m em)
+  strict_bad reason k x r n ek ex e =
+      e ∙ simp (same_reason, n, ek, ex, ended (literal_of Strict s) m em, stopped (literal_of Strict s) m em)
 
-  module _ (z : reason ≡ reasons.none) where
+  module _ (z : found ≡ None) where
     sound : Sound s (literal_of Strict s).ending
     sound = zero_sound s (literal_of Strict s).ending (same_reason ∙ z)
 
-    pub strict_ill : (x : Bool) → x ≡ is_between m.state → not x ≡ true → (r : Lexeme) → r ≡ illegal reasons.string_not_utf8 0 m.stop → r ≡ lex_string Strict s
+    pub strict_ill : (x : Bool) → x ≡ is_between m.state → not x ≡ true → (r : Lexeme) → r ≡ illegal R.StringNotUtf8 0 m.stop → r ≡ lex_string Strict s
     unfolding lex_string literal_reason literal_notes
     strict_ill x y n r e =
         let d : Decoded = literal_of Strict s in
-        e ∙ simp (same_reason, eq-eqb reason reasons.none z, formed d m em, ← y, not-true x n, sound.detail, sound.stays, stopped d m em)
+        e ∙ simp (same_reason, z, formed d m em, ← y, not-true x n, sound.detail, sound.stays, stopped d m em)
 
     pub strict_string : (x : Bool) → x ≡ is_between m.state → not x ≡ false → (r : Lexeme) → r ≡ extent K.String m.stop 0 m.count 0 → r ≡ lex_string Strict s
     unfolding lex_string literal_reason literal_notes
     strict_string x y n r e =
         let d : Decoded = literal_of Strict s in
-        e ∙ simp (same_reason, eq-eqb reason reasons.none z, formed d m em, ← y, not-false x n, counted d m em, stopped d m em)
+        e ∙ simp (same_reason, z, formed d m em, ← y, not-false x n, counted d m em, stopped d m em)
 
 module _ (s : List ℕ) (m : Measure) (em : m ≡ measured 0 0 Between (literal_of Tolerant s)) (h : 0 < length s) (k : ℕ)
     (ek : k ≡ length (end_notes m.end)) where
@@ -83,7 +85,7 @@ module _ (s : List ℕ) (m : Measure) (em : m ≡ measured 0 0 Between (literal_
       let d : Decoded = literal_of Tolerant s in
       e ∙ simp (noted, formed d m em, ← y, n, counted d m em, stopped d m em)
 
-  pub tolerant_ill : (x : Bool) → x ≡ is_between m.state → x ≡ false → (r : Lexeme) → r ≡ illegal_reported reasons.string_not_utf8 0 m.stop (m.reports + k)
+  pub tolerant_ill : (x : Bool) → x ≡ is_between m.state → x ≡ false → (r : Lexeme) → r ≡ illegal_reported R.StringNotUtf8 0 m.stop (m.reports + k)
       → r ≡ lex_string Tolerant s
   unfolding lex_string literal_reason
   tolerant_ill x y n r e =

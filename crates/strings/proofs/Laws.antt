@@ -4,16 +4,18 @@ use mathlib.Core.Path.{◌≡◌, refl}
 use mathlib.Core.Bool.{Bool, true, false}
 use mathlib.Core.List.Memᴰ
 use mathlib.Core.List.{List, [], ◌∷◌, Memᴰ}
+use Rattle.std.proofs.Common.{Option, Some, None, is_some}
+use Rattle.std.specs.Option.{option_or}
 use mathlib.Core.Logic.{◌⊎◌, inl, inr, ⊎_elim}
 use Prim.Native.Nat.{ℕ, ◌+◌, ◌-◌, ◌≤◌, ◌<◌, zero-le}
 use native.Mathlib.Omega.{arith}
-use borrow.Author.Tests.{eqb-true, eqb-false}
-use lib.Dec.{eqb, lit≤}
+use borrow.Author.Tests.{eqb-true}
+use lib.Dec.{lit≤}
 use lib.ListN.{length, drop, length-append, length-drop}
 use lib.Seq.{get_or-drop}
 use Rattle.base.specs.Choice.{pick}
 use Rattle.base.specs.Bytes.{byte, AreBytes}
-use Rattle.base.proofs.Tests.{pick_case, pick_first, pick_le}
+use Rattle.base.proofs.Tests.{pick_case, pick_le, zero_one}
 use Rattle.utf8.specs.Grammar.{Octets, none, valid_to}
 use Rattle.utf8.specs.Onward.{Boundary}
 use Rattle.utf8.specs.Check.{char_end}
@@ -22,16 +24,18 @@ use Rattle.utf8.proofs.Boundaries.{boundary_at, ascii_boundary, char_end_ge, cha
 use Rattle.utf8.proofs.Concatenations.{ascii_no_tail}
 use Rattle.utf8.specs.declared.character.Encoded.{Encoded}
 use Rattle.token.specs.Reason as reasons
-use Rattle.token.specs.Helpers.{last_reason}
+use Rattle.token.specs.Reason.{reason_number, is_unknown_escape, number_of}
 use Rattle.token.specs.declared.kind.TokenKind.TheVariants as K
+use Rattle.token.specs.declared.reason.Reason.{Reason}
+use Rattle.token.specs.declared.reason.Reason.TheVariants as R
 use Rattle.lexeme.specs.Lexeme.{Note, note_at_start, extent, illegal_reported}
 use Rattle.lexeme.specs.declared.Lexeme.{Lexeme}
 use Rattle.lexeme.specs.declared.Mode.{Mode}
 use Rattle.lexeme.specs.declared.Mode.TheVariants.{Strict, Tolerant}
 use Rattle.lexeme.proofs.Within.{Within, extent_within, illegal_within}
-use Rattle.strings.specs.Decode.{Decoded, letter_detail, step_notes, decode}
+use Rattle.strings.specs.Decode.{Decoded, letter_detail, step_notes}
 use Rattle.strings.specs.Literal.{well_formed, literal_of, end_reason, literal_reason, end_detail, literal_end, end_notes, literal_notes}
-use Rattle.strings.specs.Literal.{lex_string, string_bytes, string_notes}
+use Rattle.strings.specs.Literal.{bytes_reason, token_for, lex_string, string_bytes, string_notes}
 use Rattle.strings.specs.Helpers.{Sized}
 use Rattle.strings.specs.declared.literal.End.{End}
 use Rattle.strings.specs.declared.literal.End.TheVariants as end
@@ -44,104 +48,102 @@ use Rattle.strings.proofs.Bounds.{Bounds, literal_bounds, Sound, zero_sound, tol
 module _ (m : Mode) (s : List ℕ) (P : Lexeme → List ℕ → Type 0) where
   by_verdict : let d = literal_of m s in
       let reports = length (literal_notes m d) in
-      (literal_reason m d ≡ reasons.none → P (extent K.String d.stop 0 (length d.bytes) reports) d.bytes)
-      → ((literal_reason m d ≡ reasons.none → ⊥)
-      → P (illegal_reported (literal_reason m d) (end_detail d.ending) (literal_end s d.ending d.stop) reports) [])
+      (literal_reason m d ≡ None → P (extent K.String d.stop 0 (length d.bytes) reports) d.bytes)
+      → ((r : Reason) → literal_reason m d ≡ Some r → P (illegal_reported r (end_detail d.ending) (literal_end s d.ending d.stop) reports) [])
       → P (lex_string m s) (string_bytes m s)
   unfolding lex_string string_bytes
-  by_verdict f g = go (eqb (literal_reason m (literal_of m s)) reasons.none) refl
+  by_verdict f g = go (literal_reason m (literal_of m s)) refl
     where
       go : let d = literal_of m s in
-          (b : Bool) → eqb (literal_reason m d) reasons.none ≡ b
-          → P (pick b (extent K.String d.stop 0 (length d.bytes) (length (literal_notes m d)))
-          (illegal_reported (literal_reason m d) (end_detail d.ending) (literal_end s d.ending d.stop) (length (literal_notes m d))))
-          (pick b d.bytes [])
-      go true e = f (eqb-true (literal_reason m (literal_of m s)) reasons.none e)
-      go false e = g (eqb-false (literal_reason m (literal_of m s)) reasons.none e)
+          (v : Option Reason) → literal_reason m d ≡ v → P (token_for v m s d) (pick (is_some v) [] d.bytes)
+      go None e = f e
+      go (Some r) e = g r e
 
 -- without a reason the bytes are UTF-8, and a strict ending has none
-utf8_pick : (w : Bool) → pick w reasons.none reasons.string_not_utf8 ≡ reasons.none → w ≡ true
-utf8_pick w z = (pick_first w (λ e. omega arith) z).0
+utf8_pick : (w : Bool) → pick w None (Some R.StringNotUtf8) ≡ None → w ≡ true
+utf8_pick true z = refl
+utf8_pick false z = zero_one (cc)
 
-formed : (m : Mode) (d : Decoded) → literal_reason m d ≡ reasons.none → well_formed d.bytes ≡ true
-unfolding literal_reason
-formed Strict d =
-    pick_case (λ (r : ℕ). r ≡ reasons.none → well_formed d.bytes ≡ true) (eqb (end_reason d.ending) reasons.none)
-    (λ _. utf8_pick (well_formed d.bytes)) (λ e z. absurd (eqb-false (end_reason d.ending) reasons.none e z))
-formed Tolerant d = utf8_pick (well_formed d.bytes)
+strict_none : (x y : Option Reason) → option_or x y ≡ None → (x ≡ None) × (y ≡ None)
+strict_none None y z = (refl, z)
+strict_none (Some r) y z = zero_one (cc)
 
-unreasoned : (d : Decoded) → literal_reason Strict d ≡ reasons.none → end_reason d.ending ≡ reasons.none
+formed : (m : Mode) (d : Decoded) → literal_reason m d ≡ None → well_formed d.bytes ≡ true
 unfolding literal_reason
-unreasoned d =
-    pick_case (λ (r : ℕ). r ≡ reasons.none → end_reason d.ending ≡ reasons.none) (eqb (end_reason d.ending) reasons.none)
-    (λ e _. eqb-true (end_reason d.ending) reasons.none e) (λ _ z. z)
+formed Strict d z = utf8_pick (well_formed d.bytes) (strict_none (end_reason d.ending) (bytes_reason d) z).1
+formed Tolerant d z = utf8_pick (well_formed d.bytes) z
+
+unreasoned : (d : Decoded) → literal_reason Strict d ≡ None → end_reason d.ending ≡ None
+unfolding literal_reason
+unreasoned d z = (strict_none (end_reason d.ending) (bytes_reason d) z).0
 
 -- so a strict String is closed
-named_closed : (l : List ℕ) (e : End) → Named Strict l e → end_reason e ≡ reasons.none → e ≡ end.Closed
+none_closed : (e : End) → end_reason e ≡ None → e ≡ end.Closed
 unfolding end_reason
-named_closed l end.Closed n z = refl
-named_closed l end.AtNewline n z = absurd (omega arith)
-named_closed l end.Cut n z = absurd (omega arith)
-named_closed l end.Open n z = absurd (omega arith)
-named_closed l (end.Bad reason letter) n z = absurd (omega (arith, n.low))
+none_closed end.Closed z = refl
+none_closed end.AtNewline z = zero_one (cc)
+none_closed end.Cut z = zero_one (cc)
+none_closed end.Open z = zero_one (cc)
+none_closed (end.Bad reason letter) z = zero_one (cc)
 
-zero_closed : (s : List ℕ) → end_reason (literal_of Strict s).ending ≡ reasons.none → (literal_of Strict s).ending ≡ end.Closed
-unfolding literal_of decode end_reason
-zero_closed [] z = absurd (omega arith)
-zero_closed (x ∷ s) z =
-    by_steps Strict (x ∷ s) (λ (i : ℕ) (d : Decoded). end_reason d.ending ≡ reasons.none → d.ending ≡ end.Closed)
-    (λ i e p k g u. named_closed (drop i (x ∷ s)) e u.named) (λ i enc used reason r k w v. v) 1 (omega arith) z
-
-string_closed : (m : Mode) (s : List ℕ) → literal_reason m (literal_of m s) ≡ reasons.none → m ≡ Strict → (literal_of m s).ending ≡ end.Closed
-string_closed Strict s z e = zero_closed s (unreasoned (literal_of Strict s) z)
-string_closed Tolerant s z e = cc
+string_closed : (m : Mode) (s : List ℕ) → literal_reason m (literal_of m s) ≡ None → m ≡ Strict → (literal_of m s).ending ≡ end.Closed
+string_closed Strict s z e = none_closed (literal_of Strict s).ending (unreasoned (literal_of Strict s) z)
+string_closed Tolerant s z e = zero_one (cc)
 
 -- and no String's ending is a bad escape
-string_sound : (m : Mode) (s : List ℕ) → 0 < length s → literal_reason m (literal_of m s) ≡ reasons.none → Sound s (literal_of m s).ending
+string_sound : (m : Mode) (s : List ℕ) → 0 < length s → literal_reason m (literal_of m s) ≡ None → Sound s (literal_of m s).ending
 string_sound Strict s h z = zero_sound s (literal_of Strict s).ending (unreasoned (literal_of Strict s) z)
 string_sound Tolerant s h z = tolerant_sound s h
 
 module _ (m : Mode) (s : List ℕ) where
   -- the size is the length of the bytes that go to the string buffer, in either case
   pub string_size_lem : length (string_bytes m s) ≡ (lex_string m s).size
-  string_size_lem = by_verdict m s (λ r bs. length bs ≡ r.size) (λ _. refl) (λ _. refl)
+  string_size_lem = by_verdict m s (λ r bs. length bs ≡ r.size) (λ _. refl) (λ _ _. refl)
 
   pub string_notes_size : length (string_notes m s) ≡ (lex_string m s).reports
   unfolding string_notes
-  string_notes_size = by_verdict m s (λ r bs. length (literal_notes m (literal_of m s)) ≡ r.reports) (λ _. refl) (λ _. refl)
+  string_notes_size = by_verdict m s (λ r bs. length (literal_notes m (literal_of m s)) ≡ r.reports) (λ _. refl) (λ _ _. refl)
 
   -- it is a String or Illegal
   pub string_kind : ((lex_string m s).kind ≡ K.String) ⊎ ((lex_string m s).kind ≡ K.Illegal)
-  string_kind = by_verdict m s (λ r bs. (r.kind ≡ K.String) ⊎ (r.kind ≡ K.Illegal)) (λ _. inl refl) (λ _. inr refl)
+  string_kind = by_verdict m s (λ r bs. (r.kind ≡ K.String) ⊎ (r.kind ≡ K.Illegal)) (λ _. inl refl) (λ _ _. inr refl)
 
   -- a String has the decoded bytes
   pub string_bytes_lem : (lex_string m s).kind ≡ K.String → string_bytes m s ≡ (literal_of m s).bytes
-  string_bytes_lem = by_verdict m s (λ r bs. r.kind ≡ K.String → bs ≡ (literal_of m s).bytes) (λ _ _. refl) (λ _ k. cc)
+  string_bytes_lem = by_verdict m s (λ r bs. r.kind ≡ K.String → bs ≡ (literal_of m s).bytes) (λ _ _. refl) (λ _ _ k. cc)
 
   -- its length and its size are those of the literal
   pub string_sized : (lex_string m s).kind ≡ K.String → Sized m s (lex_string m s).len (lex_string m s).size
   string_sized =
       by_verdict m s (λ r bs. r.kind ≡ K.String → Sized m s r.len r.size)
       (λ z _. record { count = refl; stop = refl; closed = string_closed m s z })
-      (λ _ k. let z : ◌≡◌ {A = ℕ} 0 1 = cc in absurd (omega arith))
+      (λ _ _ k. zero_one (cc))
 
   pub string_utf8 : Octets (string_bytes m s)
   unfolding well_formed
   string_utf8 =
       let l : List ℕ = (literal_of m s).bytes in
-      by_verdict m s (λ r bs. Octets bs) (λ z. valid_octets l (eqb-true (valid_to l) (length l) (formed m (literal_of m s) z))) (λ _. none)
+      by_verdict m s (λ r bs. Octets bs) (λ z. valid_octets l (eqb-true (valid_to l) (length l) (formed m (literal_of m s) z))) (λ _ _. none)
 
   -- an Illegal literal has none
   pub illegal_bytes : (lex_string m s).kind ≡ K.Illegal → string_bytes m s ≡ []
-  illegal_bytes = by_verdict m s (λ r bs. r.kind ≡ K.Illegal → bs ≡ []) (λ _ k. cc) (λ _ _. refl)
+  illegal_bytes = by_verdict m s (λ r bs. r.kind ≡ K.Illegal → bs ≡ []) (λ _ k. cc) (λ _ _ _. refl)
 
 -- ---- bounds
 
-reason_le : (m : Mode) (d : Decoded) → end_reason d.ending ≤ reasons.open_string → literal_reason m d ≤ reasons.string_not_utf8
+utf8_le : (w : Bool) → number_of (pick w None (Some R.StringNotUtf8)) ≤ reasons.string_not_utf8
+unfolding reason_number
+utf8_le true = lit≤ tt
+utf8_le false = lit≤ tt
+
+or_le : (x y : Option Reason) (n : ℕ) → number_of x ≤ n → number_of y ≤ n → number_of (option_or x y) ≤ n
+or_le None y n h k = k
+or_le (Some r) y n h k = h
+
+reason_le : (m : Mode) (d : Decoded) → number_of (end_reason d.ending) ≤ reasons.open_string → number_of (literal_reason m d) ≤ reasons.string_not_utf8
 unfolding literal_reason
-reason_le Strict d h =
-    pick_le (eqb (end_reason d.ending) reasons.none) (pick_le (well_formed d.bytes) (lit≤ tt) (lit≤ tt)) (omega arith)
-reason_le Tolerant d h = pick_le (well_formed d.bytes) (lit≤ tt) (lit≤ tt)
+reason_le Strict d h = or_le (end_reason d.ending) (bytes_reason d) reasons.string_not_utf8 (omega arith) (utf8_le (well_formed d.bytes))
+reason_le Tolerant d h = utf8_le (well_formed d.bytes)
 
 -- an ending makes one report at most
 end_le : (e : End) → length (end_notes e) ≤ 1
@@ -164,28 +166,27 @@ end_case s p P f g end.Closed = f
 end_case s p P f g end.AtNewline = f
 end_case s p P f g end.Cut = f
 end_case s p P f g end.Open = f
-end_case s p P f g (end.Bad reason letter) = pick_case P (eqb reason reasons.unknown_escape) (λ _. g) (λ _. f)
+end_case s p P f g (end.Bad reason letter) = pick_case P (is_unknown_escape reason) (λ _. g) (λ _. f)
 
-letter_le : (reason letter : ℕ) → letter < 256 → letter_detail reason letter ≤ 255
+letter_le : (reason : Reason) (letter : ℕ) → letter < 256 → letter_detail reason letter ≤ 255
 unfolding letter_detail
-letter_le reason letter h = pick_le (eqb reason reasons.unknown_escape) (omega arith) (omega arith)
+letter_le reason letter h = pick_le (is_unknown_escape reason) (omega arith) (omega arith)
 
 -- a report of a literal
 pub record NoteIn (s : List ℕ) (n : Note) : Type 0 where
-  pub reason_in : n.reason ≤ last_reason
   pub detail_in : AreBytes s → n.detail ≤ 255
   pub offset_in : n.offset ≤ length s
 
 -- the report of an ending
-start_note : (s : List ℕ) (x : Note) (r : ℕ) → r ≤ last_reason → Memᴰ x (note_at_start r ∷ []) → NoteIn s x
-start_note s x r h q = rw (Memᴰ.eq_of_singleton q) (record { reason_in = h; detail_in = λ _. zero-le; offset_in = zero-le })
+start_note : (s : List ℕ) (x : Note) (r : Reason) → Memᴰ x (note_at_start r ∷ []) → NoteIn s x
+start_note s x r q = rw (Memᴰ.eq_of_singleton q) (record { detail_in = λ _. zero-le; offset_in = zero-le })
 
 end_note : (s : List ℕ) (x : Note) (e : End) → Memᴰ x (end_notes e) → NoteIn s x
 unfolding end_notes
 end_note s x end.Closed q = absurd (Memᴰ.not-nil q)
-end_note s x end.AtNewline q = start_note s x reasons.string_ended_at_newline (lit≤ tt) q
-end_note s x end.Cut q = start_note s x reasons.open_escape (lit≤ tt) q
-end_note s x end.Open q = start_note s x reasons.open_string (lit≤ tt) q
+end_note s x end.AtNewline q = start_note s x R.StringEndedAtNewline q
+end_note s x end.Cut q = start_note s x R.OpenEscape q
+end_note s x end.Open q = start_note s x R.OpenString q
 end_note s x (end.Bad reason letter) q = absurd (Memᴰ.not-nil q)
 
 module _ (m : Mode) (s : List ℕ) (h : 0 < length s) where
@@ -201,22 +202,17 @@ module _ (m : Mode) (s : List ℕ) (h : 0 < length s) where
   ending_detail Strict i (end.Bad reason letter) n bytes = letter_le reason letter (letter_in bytes i letter n.named)
   ending_detail Tolerant i (end.Bad reason letter) n bytes = absurd n
 
-  step_notes_lem : (i : ℕ) (enc : Encoded) (used reason : ℕ) → i ≤ length s → Went (drop i s) enc used reason → (x : Note)
+  step_notes_lem : (i : ℕ) (enc : Encoded) (used : ℕ) (reason : Option Reason) → i ≤ length s → Went (drop i s) enc used reason → (x : Note)
       → Memᴰ x (step_notes reason (byte enc.bytes 1) i) → NoteIn s x
   unfolding step_notes
-  step_notes_lem i enc used reason k w x = go (eqb reason reasons.none) refl
-    where
-      go : (z : Bool) → eqb reason reasons.none ≡ z
-          → Memᴰ x (pick z [] (record { reason = reason; detail = letter_detail reason (byte enc.bytes 1); offset = i + 1 } ∷ [])) → NoteIn s x
-      go true e q = absurd (Memᴰ.not-nil q)
-      go false e q =
-          let t : Taken enc.len used (length (drop i s)) = w.taken in
-          rw (Memᴰ.eq_of_singleton q)
-          (record {
-            reason_in = omega (arith, w.small);
-            detail_in = λ bytes. letter_le reason (byte enc.bytes 1) (letter_in bytes i (byte enc.bytes 1) (w.named (eqb-false reason reasons.none e)));
-            offset_in = omega (arith, length-drop i s);
-          })
+  step_notes_lem i enc used None k w x q = absurd (Memᴰ.not-nil q)
+  step_notes_lem i enc used (Some r) k w x q =
+      let t : Taken enc.len used (length (drop i s)) = w.taken in
+      rw (Memᴰ.eq_of_singleton q)
+      (record {
+        detail_in = λ bytes. letter_le r (byte enc.bytes 1) (letter_in bytes i (byte enc.bytes 1) (w.named r refl));
+        offset_in = omega (arith, length-drop i s);
+      })
 
   -- what the letters of the text from i on give
   record Lettered (d : Decoded) : Type 0 where
@@ -242,14 +238,13 @@ module _ (m : Mode) (s : List ℕ) (h : 0 < length s) where
       by_verdict m s (λ r bs. Within s r)
       (λ _. extent_within s K.String d.stop (omega (arith, b.bytes_in)) b.upto 0 (length d.bytes) (length (literal_notes m d))
       (omega (arith, b.bytes_in)) (omega (arith, b.notes_in_lem)))
-      (λ _. illegal_within s _ _ _ _ (omega (arith, b.bytes_in)) hi (omega (arith, b.notes_in_lem))
-      (omega (arith, reason_le m d b.reason)) (λ bytes. omega (arith, lettered.detail bytes)))
+      (λ _ _. illegal_within s _ _ _ _ (omega (arith, b.bytes_in)) hi (omega (arith, b.notes_in_lem)) (λ bytes. omega (arith, lettered.detail bytes)))
 
   -- its reason is at most the last of strings
-  pub string_reason : (lex_string m s).reason ≤ reasons.string_not_utf8
+  pub string_reason : number_of (lex_string m s).reason ≤ reasons.string_not_utf8
   string_reason =
-      by_verdict m s (λ r bs. r.reason ≤ reasons.string_not_utf8) (λ _. lit≤ tt)
-      (λ _. reason_le m (literal_of m s) (literal_bounds m s h).reason)
+      let le = reason_le m (literal_of m s) (literal_bounds m s h).reason in
+      by_verdict m s (λ r bs. number_of r.reason ≤ reasons.string_not_utf8) (λ _. lit≤ tt) (λ r e. rw e at le)
 
   -- every report of it
   pub notes_in_lem : (x : Note) → Memᴰ x (string_notes m s) → NoteIn s x
@@ -280,20 +275,20 @@ module _ (m : Mode) (s : List ℕ) (h : 0 < length s) (b : Boundary s 0) where
     stop_in : (e : End) → Ended m (drop i s) e (p - i) → p ≤ length s
     stop_in e u = omega (arith, u.upto, length-drop i s)
 
-    stop_boundary : (e : End) → Ended m (drop i s) e (p - i) → (end_reason e ≡ reasons.unknown_escape → ⊥) → Boundary s p
+    stop_boundary : (e : End) → Ended m (drop i s) e (p - i) → ((r : Reason) → end_reason e ≡ Some r → is_unknown_escape r ≡ false) → Boundary s p
     stop_boundary e u n =
         let q : i + (p - i) ≡ p = omega arith in
         rw q at (clean_boundary i (p - i) (omega (arith, stop_in e u)) (u.clean n))
 
     end_boundary : (e : End) → Ended m (drop i s) e (p - i) → Boundary s (literal_end s e p)
-    unfolding literal_end end_reason
-    end_boundary end.Closed u = stop_boundary end.Closed u (λ z. omega arith)
-    end_boundary end.AtNewline u = stop_boundary end.AtNewline u (λ z. omega arith)
-    end_boundary end.Cut u = stop_boundary end.Cut u (λ z. omega arith)
-    end_boundary end.Open u = stop_boundary end.Open u (λ z. omega arith)
+    unfolding literal_end end_reason reason_number
+    end_boundary end.Closed u = stop_boundary end.Closed u (λ r z. zero_one (cc))
+    end_boundary end.AtNewline u = stop_boundary end.AtNewline u (λ r z. let e : R.NewlineInString ≡ r = cc in rw (← e) refl)
+    end_boundary end.Cut u = stop_boundary end.Cut u (λ r z. let e : R.OpenEscape ≡ r = cc in rw (← e) refl)
+    end_boundary end.Open u = stop_boundary end.Open u (λ r z. let e : R.OpenString ≡ r = cc in rw (← e) refl)
     end_boundary (end.Bad reason letter) u =
-        pick_case (Boundary s) (eqb reason reasons.unknown_escape) (λ _. char_end_boundary s p (stop_in (end.Bad reason letter) u) b)
-        (λ e. stop_boundary (end.Bad reason letter) u (eqb-false reason reasons.unknown_escape e))
+        pick_case (Boundary s) (is_unknown_escape reason) (λ _. char_end_boundary s p (stop_in (end.Bad reason letter) u) b)
+        (λ e. stop_boundary (end.Bad reason letter) u (λ r z. let q : reason ≡ r = cc in rw (← q) e))
 
   -- a literal at the front of a well-formed text ends between characters
   pub string_boundary : Boundary s (lex_string m s).len
@@ -303,4 +298,4 @@ module _ (m : Mode) (s : List ℕ) (h : 0 < length s) (b : Boundary s 0) where
       let v : Boundary s (literal_end s d.ending d.stop) =
       by_steps m s (λ (i : ℕ) (x : Decoded). Boundary s (literal_end s x.ending x.stop)) (λ i e p k g u. end_boundary i p k g e u)
       (λ i enc used reason r k w v. v) 1 h in
-      by_verdict m s (λ r bs. Boundary s r.len) (λ z. rw ((string_sound m s h z).stays d.stop) at v) (λ _. v)
+      by_verdict m s (λ r bs. Boundary s r.len) (λ z. rw ((string_sound m s h z).stays d.stop) at v) (λ _ _. v)

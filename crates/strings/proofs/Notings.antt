@@ -2,25 +2,23 @@
 -- the text, one turn at a time. Assumes nothing.
 use mathlib.Core.Path.{◌≡◌, refl, sym, ap, ◌∙◌}
 use mathlib.Core.List.{List, [], ◌∷◌, ◌++◌, append_assoc}
+use Rattle.std.proofs.Common.{Option, Some, None}
 use Prim.Native.Nat.{ℕ, ◌+◌, ◌-◌, ◌^◌, ◌≤◌, ◌<◌}
 use native.Mathlib.Nat.{add-zero, add_assoc}
 use native.Mathlib.Omega.{arith}
-use borrow.Author.Tests.{eq-eqb, ne_eqb}
-use lib.Dec.{eqb}
 use lib.IntN.{ℤ}
 use lib.ListN.{length, drop, take, length-drop}
 use lib.Seq.{sets}
 use mir.Syntax.{w64}
 use mir.Val.{Fits}
-use Rattle.base.specs.Choice.{pick}
 use Rattle.base.specs.Runs.{reach}
 use Rattle.base.proofs.Reaches.{rest_is}
 use Rattle.base.specs.Bytes.{byte}
 use Rattle.utf8.specs.Character.{octets_of}
 use Rattle.utf8.specs.declared.character.Encoded.{Encoded}
 use Rattle.token.specs.Place.{place_at}
-use Rattle.token.specs.Helpers.{Walkable, ReportFits, last_reason}
-use Rattle.token.specs.Reason as reasons
+use Rattle.token.specs.Helpers.{Walkable, ReportFits}
+use Rattle.token.specs.declared.reason.Reason.{Reason}
 use Rattle.token.specs.Layout.{report_width, report_numbers}
 use Rattle.token.specs.declared.place.Place.{Place}
 use Rattle.token.proofs.Places.{place_offset}
@@ -43,9 +41,9 @@ use Rattle.base.proofs.Storings.{Storing, storing_first, storing_end, storing_ro
 
 -- ---- `put_note`
 
-module _ (text : List ℕ) (to : ℕ) (place : Place) (is : place ≡ place_at text to) (reason detail : ℕ) where
-  pub escape_fits : (known : Place) → Walkable text known to → reason ≤ reasons.unknown_escape → detail ≤ 255 → ReportFits (report_at place reason detail)
-  escape_fits known w r d = report_fits text to place reason detail is w.inside w.short (omega arith) d
+module _ (text : List ℕ) (to : ℕ) (place : Place) (is : place ≡ place_at text to) (reason : Reason) (detail : ℕ) where
+  pub escape_fits : (known : Place) → Walkable text known to → detail ≤ 255 → ReportFits (report_at place reason detail)
+  escape_fits known w d = report_fits text to place reason detail is w.inside w.short d
 
   pub escape_put : (letter : ℕ) (out : List ℤ) (p : ℕ) (o : List ℤ) → detail ≡ letter_detail reason letter
       → o ≡ sets out p (report_numbers (report_at place reason detail))
@@ -89,11 +87,10 @@ notes_left {s} {ns = ns} {j = j} g =
     let r : Decoded = from Tolerant s j in
     ap (literal_notes Tolerant) g.is ∙ append_assoc ns r.notes (end_notes r.ending)
 
--- what `end_report` finds
-ending_notes : (text : List ℕ) (a reason : ℕ) (ns : List Note) → ns ≡ pick (eqb reason reasons.none) [] (note_at_start reason ∷ [])
-    → (reason ≡ reasons.none → ⊥) → notes_numbers text a ns ≡ report_numbers (report_at (place_at text a) reason 0)
+-- the report of an ending, as `end_report` finds it
+ending_notes : (text : List ℕ) (a : ℕ) (reason : Reason) → notes_numbers text a (note_at_start reason ∷ []) ≡ report_numbers (report_at (place_at text a) reason 0)
 unfolding notes_numbers report_of
-ending_notes text a reason ns e n = rw (e, ne_eqb reason reasons.none n, add-zero a)
+ending_notes text a reason = rw (add-zero a)
 
 module _ {text : List ℕ} {start : Place} {out₀ : List ℤ} {at : ℕ} {s : List ℕ} {out : List ℤ} {i p : ℕ} {place : Place}
     (u : Noting text start out₀ at s out i p place) where
@@ -110,40 +107,38 @@ module _ (text : List ℕ) (start : Place) (out₀ : List ℤ) (at : ℕ) (s : L
   ran = passed u (run_gives s i e ee u.inside Tolerant) refl (run_ge s i e ee)
 
   module _ {q : Step} (is : q ≡ step_of Tolerant e (piece_of (drop e s))) where
-    module _ {x : End} {y : ℕ} (h : q ≡ Stop x y) (reason : ℕ) (er : end_notes x ≡ pick (eqb reason reasons.none) [] (note_at_start reason ∷ [])) where
+    module _ {x : End} {y : ℕ} (h : q ≡ Stop x y) where
       last_left : literal_notes Tolerant (from Tolerant s e) ≡ end_notes x
       unfolding literal_notes
       last_left = ap (literal_notes Tolerant) (from_stop Tolerant s e is h)
 
-      pub noting_none : reason ≡ reasons.none → out ≡ sets out₀ at (string_numbers Tolerant text start.offset)
+      pub noting_none : end_notes x ≡ [] → out ≡ sets out₀ at (string_numbers Tolerant text start.offset)
       unfolding notes_numbers
-      noting_none z =
-          let n : end_notes x ≡ [] = er ∙ rw (eq-eqb reason reasons.none z) in
-          storing_end ran.store (ap (notes_numbers text start.offset) (last_left ∙ n))
+      noting_none n = storing_end ran.store (ap (notes_numbers text start.offset) (last_left ∙ n))
 
-      module _ (n : reason ≡ reasons.none → ⊥) where
+      module _ {reason : Reason} (n : end_notes x ≡ note_at_start reason ∷ []) where
         end_numbers : left text start s e ≡ report_numbers (report_at start reason 0)
         end_numbers =
-            ap (notes_numbers text start.offset) last_left ∙ ending_notes text start.offset reason (end_notes x) er n
+            ap (notes_numbers text start.offset) (last_left ∙ n) ∙ ending_notes text start.offset reason
             ∙ ap (λ (q : Place). report_numbers (report_at q reason 0)) (sym ran.fit.true_place)
 
         pub end_room : p + report_width ≤ length out
         end_room = omega (arith, ap length end_numbers, ran.store.room, ran.store.same)
 
-        pub end_fits : reason ≤ last_reason → ReportFits (report_at start reason 0)
-        end_fits l =
+        pub end_fits : ReportFits (report_at start reason 0)
+        end_fits =
             let f = ran.fit in
-            report_fits text start.offset start reason 0 f.true_place (omega (arith, f.inside)) f.short l (omega arith)
+            report_fits text start.offset start reason 0 f.true_place (omega (arith, f.inside)) f.short (omega arith)
 
         pub noting_end : (o : List ℤ) → o ≡ sets out p (report_numbers (report_at start reason 0))
             → o ≡ sets out₀ at (string_numbers Tolerant text start.offset)
         noting_end o eo = eo ∙ sym (ran.store.is ∙ ap (sets out p) end_numbers)
 
-    module _ {enc : Encoded} {used reason : ℕ} (h : q ≡ Go enc used reason) where
-      w : Went (drop e s) enc used reason
+    module _ {enc : Encoded} {used : ℕ} {found : Option Reason} (h : q ≡ Go enc used found) where
+      w : Went (drop e s) enc used found
       w = went Tolerant s e is h
 
-      gives : Gives Tolerant s e (octets_of enc) (step_notes reason (byte enc.bytes 1) e) enc.len (e + used)
+      gives : Gives Tolerant s e (octets_of enc) (step_notes found (byte enc.bytes 1) e) enc.len (e + used)
       gives = step_gives Tolerant s e is h ran.inside
 
       long : length s ≡ length text - start.offset
@@ -153,12 +148,12 @@ module _ (text : List ℕ) (start : Place) (out₀ : List ℤ) (at : ℕ) (s : L
       text_fits l = omega (arith, gives.inside, long)
 
       -- a step without a report
-      pub noting_go : reason ≡ reasons.none → Noting text start out₀ at s out (e + used) p place
+      pub noting_go : found ≡ None → Noting text start out₀ at s out (e + used) p place
       unfolding step_notes
-      noting_go z = passed ran gives (rw (eq-eqb reason reasons.none z)) (omega arith)
+      noting_go z = passed ran gives (rw z) (omega arith)
 
       -- a step with one
-      module _ (z : reason ≡ reasons.none → ⊥) where
+      module _ {reason : Reason} (z : found ≡ Some reason) where
         to_in : start.offset + e + 1 ≤ length text
         to_in = omega (arith, gives.inside, w.taken.some, long, ran.fit.inside)
 
@@ -171,15 +166,12 @@ module _ (text : List ℕ) (start : Place) (out₀ : List ℤ) (at : ℕ) (s : L
         pub note_walks : Walkable text place (start.offset + e + 1)
         note_walks = record { true_place = ran.known; forward = omega (arith, ran.behind); inside = to_in; short = ran.fit.short }
 
-        pub note_small : reason ≤ reasons.unknown_escape
-        note_small = w.small
-
         numbers : List ℤ
         numbers = report_numbers (report_at (place_at text (start.offset + e + 1)) reason (letter_detail reason (byte enc.bytes 1)))
 
         step_numbers : left text start s e ≡ numbers ++ left text start s (e + used)
         unfolding notes_numbers report_of step_notes numbers
-        step_numbers = ap (notes_numbers text start.offset) (notes_left gives) ∙ rw (ne_eqb reason reasons.none z, ← add_assoc start.offset e 1)
+        step_numbers = ap (notes_numbers text start.offset) (notes_left gives) ∙ rw (z, ← add_assoc start.offset e 1)
 
         pub note_room : p + report_width ≤ length out
         unfolding numbers

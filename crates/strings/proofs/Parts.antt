@@ -3,11 +3,12 @@
 use mathlib.Core.Path.{◌≡◌, refl, sym, ap, ◌∙◌}
 use mathlib.Core.Bool.{Bool, true, false, not, ◌&&◌, ◌||◌}
 use mathlib.Core.List.{List, [], ◌∷◌, ◌++◌, append_assoc}
+use Rattle.std.proofs.Common.{Option, Some, None}
 use Prim.Native.Nat.{ℕ, suc, ◌+◌, ◌-◌, ◌*◌, ◌^◌, ◌≤◌, ◌<◌}
 use native.Mathlib.Nat.{add-zero, add_assoc}
 use native.Mathlib.Numerals.{add-one}
 use native.Mathlib.Omega.{arith}
-use borrow.Author.Tests.{eq-eqb, ne_eqb, eqb-true, eqb-false, ltb-true, ltb-false, not-false}
+use borrow.Author.Tests.{ne_eqb, eqb-true, ltb-true, ltb-false, not-false}
 use lib.Dec.{eqb, ltb}
 use lib.ListN.{length, take, drop, set, length-drop, length-append, drop_of_length-le, get_or-eq_default}
 use lib.Seq.{sets, drop-cons, drop-drop, get_or-drop}
@@ -15,7 +16,7 @@ use mir.Syntax.{w64}
 use mir.Val.{Fits}
 use Rattle.base.specs.Bytes.{byte}
 use Rattle.base.specs.Runs.{reach}
-use Rattle.base.proofs.Tests.{and_left, and_right, or_left, or_right, pick_case, pick_same, true_false}
+use Rattle.base.proofs.Tests.{and_left, and_right, or_left, or_right, pick_case, pick_same, true_false, zero_one}
 use Rattle.utf8.specs.Grammar.{Octets, none}
 use Rattle.utf8.specs.Onward.{Boundary}
 use Rattle.utf8.specs.Check.{is_tail, inside_char}
@@ -44,50 +45,44 @@ stop_clean a e = go (ltb a 0x80) refl
 
 -- ---- escapes of one letter
 
--- `simple_at` at a backslash
-pub simple_some : (x y : ℕ) → x ≡ 0x5C → (b v : ℕ) → b ≡ y → v ≡ simple_of b → v ≡ simple_at x y
-unfolding simple_at
-simple_some x y e b v p q = rw (eq-eqb x 0x5C e, ← p) q
-
 -- the letters of the list and what they stand for are ASCII
 abbrev ascii_pairs : List (ℕ × ℕ) → Bool
 ascii_pairs [] = true
 ascii_pairs (p ∷ ps) = (ltb p.0 0x80 && ltb p.1 0x80) && ascii_pairs ps
 
-look_ascii : (e : ℕ) (ps : List (ℕ × ℕ)) → ascii_pairs ps ≡ true → (look ps e < 0x80) × ((look ps e ≡ 0 → ⊥) → e < 0x80)
-look_ascii e [] h = (omega arith, λ n. absurd (n refl))
-look_ascii e (p ∷ ps) h =
+look_ascii : (e b : ℕ) (ps : List (ℕ × ℕ)) → ascii_pairs ps ≡ true → look ps e ≡ Some b → (b < 0x80) × (e < 0x80)
+look_ascii e b [] h = λ q. zero_one (cc)
+look_ascii e b (p ∷ ps) h =
     let k = ltb p.0 0x80 in
     let v = ltb p.1 0x80 in
     let both = and_left (k && v) (ascii_pairs ps) h in
-    let rest = look_ascii e ps (and_right (k && v) (ascii_pairs ps) h) in
-    pick_case (λ (x : ℕ). (x < 0x80) × ((x ≡ 0 → ⊥) → e < 0x80)) (eqb e p.0)
-    (λ q. (ltb-true p.1 0x80 (and_right k v both), λ _. rw (eqb-true e p.0 q) (ltb-true p.0 0x80 (and_left k v both))))
+    let rest = look_ascii e b ps (and_right (k && v) (ascii_pairs ps) h) in
+    pick_case (λ (x : Option ℕ). x ≡ Some b → (b < 0x80) × (e < 0x80)) (eqb e p.0)
+    (λ t q. let f : p.1 ≡ b = cc in (rw f at (ltb-true p.1 0x80 (and_right k v both)), rw (eqb-true e p.0 t) (ltb-true p.0 0x80 (and_left k v both))))
     (λ _. rest)
 
-at_ascii : (x y : ℕ) → (simple_at x y < 0x80) × ((simple_at x y ≡ 0 → ⊥) → (x < 0x80) × (y < 0x80))
+at_ascii : (x y b : ℕ) → simple_at x y ≡ Some b → (b < 0x80) × (x < 0x80) × (y < 0x80)
 unfolding simple_at simple_of letters
-at_ascii x y =
-    let l = look_ascii y letters refl in
-    pick_case (λ (v : ℕ). (v < 0x80) × ((v ≡ 0 → ⊥) → (x < 0x80) × (y < 0x80))) (eqb x 0x5C)
-    (λ q. (l.0, λ n. (omega (arith, eqb-true x 0x5C q), l.1 n))) (λ _. (omega arith, λ n. absurd (n refl)))
+at_ascii x y b =
+    pick_case (λ (v : Option ℕ). v ≡ Some b → (b < 0x80) × (x < 0x80) × (y < 0x80)) (eqb x 0x5C)
+    (λ t q. let l = look_ascii y b letters refl q in (l.0, omega (arith, eqb-true x 0x5C t), l.1)) (λ _ q. zero_one (cc))
 
-at_zero : (x : ℕ) → simple_at x 0 ≡ 0
+at_zero : (x : ℕ) → simple_at x 0 ≡ None
 unfolding simple_at simple_of letters
-at_zero x = pick_same (eqb x 0x5C) 0
+at_zero x = pick_same (eqb x 0x5C) None
 
 simple_whole : (l : List ℕ) → Octets (simple_bytes l)
 simple_whole =
-    by_escapes (λ l v. Octets v) (λ l. none) (λ x y l e ih. octets_append (ascii_octets (simple_at x y) (at_ascii x y).0) ih)
+    by_escapes (λ l v. Octets v) (λ l. none) (λ x y b l e ih. octets_append (ascii_octets b (at_ascii x y b e).0) ih)
 
 -- the rest after them is well formed
 simples_rest : (l : List ℕ) → Octets l → Octets (drop (2 * length (simple_bytes l)) l)
 simples_rest =
     by_escapes (λ l v. Octets l → Octets (drop (2 * length v) l)) (λ l o. o)
-    (λ x y l e ih o.
-    let a = (at_ascii x y).1 (eqb-false (simple_at x y) 0 e) in
+    (λ x y b l e ih o.
+    let a = at_ascii x y b e in
     let k : 2 * suc (length (simple_bytes l)) ≡ suc (suc (2 * length (simple_bytes l))) = omega arith in
-    rw k (ih (ascii_rest y l a.1 (ascii_rest x (y ∷ l) a.0 o))))
+    rw k (ih (ascii_rest y l a.2 (ascii_rest x (y ∷ l) a.1 o))))
 
 -- the escapes from e on
 module _ (s : List ℕ) (e : ℕ) where
@@ -95,33 +90,33 @@ module _ (s : List ℕ) (e : ℕ) where
   unfolding simple_bytes
   simples_end h = rw (drop_of_length-le s h)
 
-  module _ (h : e < length s) (v : ℕ) (is : v ≡ simple_at (byte s e) (byte s (e + 1))) where
+  module _ (h : e < length s) (v : Option ℕ) (is : v ≡ simple_at (byte s e) (byte s (e + 1))) where
     two : e + 1 < length s → drop e s ≡ byte s e ∷ byte s (e + 1) ∷ drop (e + 2) s
     two l =
         let k : suc (e + 1) ≡ e + 2 = omega arith in
         rw (drop-cons s e 0 h, ← add-one e, drop-cons s (e + 1) 0 l, k)
 
-    simples_stop : v ≡ 0 → simple_bytes (drop e s) ≡ []
+    simples_stop : v ≡ None → simple_bytes (drop e s) ≡ []
     unfolding simple_bytes
     simples_stop z = go (ltb (e + 1) (length s)) refl
       where
-        go : (b : Bool) → ltb (e + 1) (length s) ≡ b → simple_bytes (drop e s) ≡ []
+        go : (t : Bool) → ltb (e + 1) (length s) ≡ t → simple_bytes (drop e s) ≡ []
         go true l = rw (two (ltb-true (e + 1) (length s) l), ← is, z)
         go false l = rw (drop-cons s e 0 h, drop_of_length-le s (rw (add-one e) at (ltb-false (e + 1) (length s) l)))
 
-    module _ (n : v ≡ 0 → ⊥) where
+    module _ (b : ℕ) (n : v ≡ Some b) where
       simples_two : e + 1 < length s
       simples_two = go (ltb (e + 1) (length s)) refl
         where
-          go : (b : Bool) → ltb (e + 1) (length s) ≡ b → e + 1 < length s
+          go : (t : Bool) → ltb (e + 1) (length s) ≡ t → e + 1 < length s
           go true l = ltb-true (e + 1) (length s) l
           go false l =
               let z : byte s (e + 1) ≡ 0 = get_or-eq_default s 0 (ltb-false (e + 1) (length s) l) in
-              absurd (n (is ∙ rw z (at_zero (byte s e))))
+              let k : v ≡ None = is ∙ rw z (at_zero (byte s e)) in zero_one (cc)
 
-      simples_more : simple_bytes (drop e s) ≡ v ∷ simple_bytes (drop (e + 2) s)
+      simples_more : simple_bytes (drop e s) ≡ b ∷ simple_bytes (drop (e + 2) s)
       unfolding simple_bytes
-      simples_more = rw (two simples_two, ← is, ne_eqb v 0 n)
+      simples_more = rw (two simples_two, ← is, n)
 
 -- `simple_count` at e
 pub record Counting (s : List ℕ) (i e n : ℕ) : Type 0 where
@@ -136,15 +131,15 @@ module _ (s : List ℕ) (i e n : ℕ) (u : Counting s i e n) where
   pub counting_end : length s ≤ e → n ≡ length (simple_bytes (drop i s))
   counting_end h = sym (u.is ∙ rw (simples_end s e h) (add-zero n))
 
-  module _ (h : e < length s) (v : ℕ) (is : v ≡ simple_at (byte s e) (byte s (e + 1))) where
-    pub counting_stop : v ≡ 0 → n ≡ length (simple_bytes (drop i s))
+  module _ (h : e < length s) (v : Option ℕ) (is : v ≡ simple_at (byte s e) (byte s (e + 1))) where
+    pub counting_stop : v ≡ None → n ≡ length (simple_bytes (drop i s))
     counting_stop z = sym (u.is ∙ rw (simples_stop s e h v is z) (add-zero n))
 
-    module _ (z : v ≡ 0 → ⊥) where
+    module _ (b : ℕ) (z : v ≡ Some b) where
       pub counting_more : Counting s i (e + 2) (n + 1)
       counting_more =
-          let l = simples_two s e h v is z in
-          let q = ap length (simples_more s e h v is z) in
+          let l = simples_two s e h v is b z in
+          let q = ap length (simples_more s e h v is b z) in
           omega (arith, u.few, u.is)
 
       pub counting_fits : length s < 2 ^ 64 → Fits w64 (n + 1)
@@ -166,23 +161,23 @@ module _ (s : List ℕ) (i : ℕ) (out₀ : List ℕ) (place : ℕ) (out : List 
   pub putting_end : length s ≤ e → out ≡ sets out₀ place (simple_bytes (drop i s))
   putting_end h = storing_end u.store (simples_end s e h)
 
-  module _ (h : e < length s) (v : ℕ) (is : v ≡ simple_at (byte s e) (byte s (e + 1))) where
-    pub putting_stop : v ≡ 0 → out ≡ sets out₀ place (simple_bytes (drop i s))
+  module _ (h : e < length s) (v : Option ℕ) (is : v ≡ simple_at (byte s e) (byte s (e + 1))) where
+    pub putting_stop : v ≡ None → out ≡ sets out₀ place (simple_bytes (drop i s))
     putting_stop z = storing_end u.store (simples_stop s e h v is z)
 
-    module _ (z : v ≡ 0 → ⊥) where
+    module _ (b : ℕ) (z : v ≡ Some b) where
       pub putting_room : place + n < length out
       putting_room =
-          let r = storing_room u.store (v ∷ []) (simple_bytes (drop (e + 2) s)) (simples_more s e h v is z) {n = 1} refl in
+          let r = storing_room u.store (b ∷ []) (simple_bytes (drop (e + 2) s)) (simples_more s e h v is b z) {n = 1} refl in
           omega arith
 
-      pub putting_more : Putting s i out₀ place (set out (place + n) v) (e + 2) (n + 1)
+      pub putting_more : Putting s i out₀ place (set out (place + n) b) (e + 2) (n + 1)
       putting_more =
           record {
-            counted = counting_more s i e n u.counted h v is z;
+            counted = counting_more s i e n u.counted h v is b z;
             store =
                 rw (← add_assoc place n 1)
-                (storing_more u.store (v ∷ []) (simple_bytes (drop (e + 2) s)) (simples_more s e h v is z) refl (set out (place + n) v) refl);
+                (storing_more u.store (b ∷ []) (simple_bytes (drop (e + 2) s)) (simples_more s e h v is b z) refl (set out (place + n) b) refl);
           }
 
 -- ---- parts

@@ -1,8 +1,9 @@
 -- Each piece takes at least one byte and no more than there are, and gives fewer than it takes, or one that stands for itself; a bad escape's
 -- letter stands second, and its last byte is ASCII but for unknown ones. For the laws of steps. By cases on the tests. Assumes nothing.
 use mathlib.Core.Path.{◌≡◌, refl, ap, sym}
-use mathlib.Core.Bool.{Bool, true, false, ◌&&◌}
+use mathlib.Core.Bool.{Bool, true, false}
 use mathlib.Core.List.{List, [], ◌∷◌}
+use Rattle.std.proofs.Common.{Option, Some, None, is_some, option_and_then, option_map}
 use Prim.Native.Nat.{ℕ, zero, suc, ◌+◌, ◌-◌, ◌≤◌, ◌<◌}
 use native.Mathlib.Omega.{arith}
 use borrow.Author.Tests.{ltb-true, ltb-false, eqb-true, eqb-false}
@@ -11,12 +12,15 @@ use lib.ListN.{length, drop, length-drop}
 use lib.Seq.{get_or-drop}
 use Rattle.base.specs.Choice.{pick}
 use Rattle.base.specs.Bytes.{byte, within}
-use Rattle.base.proofs.Tests.{and_right, in_text, over, pick_case, true_false, within_high}
+use Rattle.base.proofs.Tests.{in_text, over, pick_case, true_false, within_high}
 use Rattle.utf8.specs.Character.{octets_of, encoded, is_scalar}
 use Rattle.utf8.specs.declared.character.Encoded.{Encoded}
 use Rattle.utf8.proofs.RoundTrip.{encode_length, octets_encoded}
 use Rattle.token.specs.Reason as reasons
-use Rattle.strings.specs.Piece.{hex_of, oct_of, simple_of, bytes_piece, hex_piece, oct_piece, hex_count, hex_value, code_piece, escape_piece, piece_of}
+use Rattle.token.specs.Reason.{reason_number, is_unknown_escape}
+use Rattle.token.specs.declared.reason.Reason.{Reason}
+use Rattle.token.specs.declared.reason.Reason.TheVariants as R
+use Rattle.strings.specs.Piece.{hex_of, oct_of, simple_of, byte_piece, hex_byte, hex_piece, oct_byte, oct_piece, hex_count, hex_value, code_piece, letter_piece, escape_piece, piece_of}
 use Rattle.strings.specs.declared.piece.Piece.{Piece}
 use Rattle.strings.specs.declared.piece.Piece.TheVariants.{Bytes, Bad, Close, Newline, Cut, Open}
 
@@ -38,16 +42,15 @@ escaped l v used t h =
     record { bytes = t; count = ap length (octets_encoded v t.four); own = λ e. absurd (omega arith) }
 
 -- a bad escape of `used` bytes at the front of l
-pub record Refused (l : List ℕ) (reason letter used : ℕ) : Type 0 where
+pub record Refused (l : List ℕ) (reason : Reason) (letter used : ℕ) : Type 0 where
   pub bytes : Taken 2 used (length l)
-  pub low : reasons.bad_x ≤ reason
-  pub high : reason ≤ reasons.unknown_escape
+  pub high : reason_number reason ≤ reasons.unknown_escape
   pub named : letter ≡ byte l 1
-  pub last : (reason ≡ reasons.unknown_escape → ⊥) → byte l (used - 1) < 0x80
+  pub last : is_unknown_escape reason ≡ false → byte l (used - 1) < 0x80
 
-refused : (l : List ℕ) (reason letter used : ℕ) → Taken 2 used (length l) → reasons.bad_x ≤ reason → reason ≤ reasons.unknown_escape → letter ≡ byte l 1
-    → ((reason ≡ reasons.unknown_escape → ⊥) → byte l (used - 1) < 0x80) → Refused l reason letter used
-refused l reason letter used t a b n e = record { bytes = t; low = a; high = b; named = n; last = e }
+refused : (l : List ℕ) (reason : Reason) (letter used : ℕ) → Taken 2 used (length l) → reason_number reason ≤ reasons.unknown_escape → letter ≡ byte l 1
+    → (is_unknown_escape reason ≡ false → byte l (used - 1) < 0x80) → Refused l reason letter used
+refused l reason letter used t b n e = record { bytes = t; high = b; named = n; last = e }
 
 -- an ASCII byte at the front
 pub record Front (l : List ℕ) : Type 0 where
@@ -63,7 +66,7 @@ PieceFacts l Cut = Front l
 PieceFacts l Open = length l ≡ 0
 
 -- a digit is an ASCII byte
-hex_ascii : (x : ℕ) → ltb (hex_of x) 16 ≡ true → x < 0x80
+hex_ascii : (x : ℕ) → is_some (hex_of x) ≡ true → x < 0x80
 unfolding hex_of
 hex_ascii x e = go (ltb x 0x80) refl
   where
@@ -77,7 +80,7 @@ count_le : (n : ℕ) (l : List ℕ) → hex_count n l ≤ n
 unfolding hex_count
 count_le zero l = omega arith
 count_le (suc n) [] = omega arith
-count_le (suc n) (x ∷ l) = go (ltb (hex_of x) 16) (count_le n l)
+count_le (suc n) (x ∷ l) = go (is_some (hex_of x)) (count_le n l)
   where
     go : (b : Bool) → hex_count n l ≤ n → pick b (suc (hex_count n l)) 0 ≤ suc n
     go true h = omega arith
@@ -88,38 +91,41 @@ count_last : (n : ℕ) (l : List ℕ) (k : ℕ) → hex_count n l ≡ suc k → 
 unfolding hex_count
 count_last zero l k e = absurd (omega arith)
 count_last (suc n) [] k e = absurd (omega arith)
-count_last (suc n) (x ∷ l) k e = go (ltb (hex_of x) 16) refl k e (count_last n l)
+count_last (suc n) (x ∷ l) k e = go (is_some (hex_of x)) refl k e (count_last n l)
   where
-    go : (b : Bool) → ltb (hex_of x) 16 ≡ b → (k : ℕ) → pick b (suc (hex_count n l)) 0 ≡ suc k → ((j : ℕ) → hex_count n l ≡ suc j → byte l j < 0x80)
+    go : (b : Bool) → is_some (hex_of x) ≡ b → (k : ℕ) → pick b (suc (hex_count n l)) 0 ≡ suc k → ((j : ℕ) → hex_count n l ≡ suc j → byte l j < 0x80)
         → byte (x ∷ l) k < 0x80
     go true t zero e ih = hex_ascii x t
     go true t (suc k) e ih = ih k (omega arith)
     go false t k e ih = absurd (omega arith)
 
-module _ (t : List ℕ) (two : 1 < length t) where
-  bad_2 : (reason letter : ℕ) → reasons.bad_x ≤ reason → reason ≤ reasons.unknown_escape → letter ≡ byte t 1
-      → ((reason ≡ reasons.unknown_escape → ⊥) → byte t 1 < 0x80) → PieceFacts t (Bad reason letter 2)
-  bad_2 reason letter a b n e = refused t reason letter 2 (omega arith) a b n e
+-- two digits that give a byte: the second is one
+second_some : (x y : Option ℕ) (f : ℕ → ℕ → ℕ) → is_some (option_and_then (λ h. option_map (f h) y) x) ≡ true → is_some y ≡ true
+second_some None y f e = true_false false e refl
+second_some (Some h) None f e = e
+second_some (Some h) (Some d) f e = refl
 
-  -- two digits after the letter
-  two_digits : (f : ℕ → ℕ) (base v reason letter : ℕ) → ltb (f 0) base ≡ false → reasons.bad_x ≤ reason → reason ≤ reasons.unknown_escape
-      → letter ≡ byte t 1 → byte t 1 < 0x80
-      → PieceFacts t (pick (ltb (f (byte t 2)) base && ltb (f (byte t 3)) base) (bytes_piece (v ∷ []) 4) (Bad reason letter 2))
-  two_digits f base v reason letter z lo hi nm h =
-      let a = ltb (f (byte t 2)) base in
-      let b = ltb (f (byte t 3)) base in
-      pick_case (PieceFacts t) (a && b)
-      (λ e. let l = in_text (λ (c : ℕ). ltb (f c) base) t 3 z (and_right a b e) in
-      escaped t (v ∷ []) 4 (omega arith) (lit≤ tt))
-      (λ _. bad_2 reason letter lo hi nm (λ _. h))
+module _ (t : List ℕ) (two : 1 < length t) where
+  bad_2 : (reason : Reason) (letter : ℕ) → reason_number reason ≤ reasons.unknown_escape → letter ≡ byte t 1
+      → (is_unknown_escape reason ≡ false → byte t 1 < 0x80) → PieceFacts t (Bad reason letter 2)
+  bad_2 reason letter hi nm h = refused t reason letter 2 (omega arith) hi nm h
+
+  fine_byte : (reason : Reason) (letter : ℕ) (v : Option ℕ) → (is_some v ≡ true → 3 < length t) → reason_number reason ≤ reasons.unknown_escape
+      → letter ≡ byte t 1 → byte t 1 < 0x80 → PieceFacts t (byte_piece reason letter v)
+  fine_byte reason letter None l hi nm h = bad_2 reason letter hi nm (λ _. h)
+  fine_byte reason letter (Some b) l hi nm h = let four = l refl in escaped t (b ∷ []) 4 (omega arith) (lit≤ tt)
 
   fine_hex : byte t 1 ≡ 0x78 → PieceFacts t (hex_piece t)
-  unfolding hex_piece hex_of
-  fine_hex x = two_digits hex_of 16 _ reasons.bad_x 0x78 refl (lit≤ tt) (lit≤ tt) (sym x) (omega arith)
+  unfolding hex_piece hex_byte hex_of reason_number
+  fine_hex x =
+      fine_byte R.BadX 0x78 (hex_byte t) (λ e. in_text (λ (c : ℕ). is_some (hex_of c)) t 3 refl (second_some (hex_of (byte t 2)) (hex_of (byte t 3)) _ e))
+      (lit≤ tt) (sym x) (omega arith)
 
   fine_oct : byte t 1 < 0x80 → PieceFacts t (oct_piece (byte t 1) t)
-  unfolding oct_piece oct_of
-  fine_oct h = two_digits oct_of 8 _ reasons.bad_octal (byte t 1) refl (lit≤ tt) (lit≤ tt) refl h
+  unfolding oct_piece oct_byte oct_of reason_number
+  fine_oct h =
+      fine_byte R.BadOctal (byte t 1) (oct_byte (byte t 1) t)
+      (λ e. in_text (λ (c : ℕ). is_some (oct_of c)) t 3 refl (second_some (oct_of (byte t 2)) (oct_of (byte t 3)) _ e)) (lit≤ tt) refl h
 
   -- what stands before the end of the digits that are counted
   code_last : (n : ℕ) → byte t 1 < 0x80 → byte t (hex_count n (drop 2 t) + 2 - 1) < 0x80
@@ -131,33 +137,36 @@ module _ (t : List ℕ) (two : 1 < length t) where
           let j : suc k + 2 - 1 ≡ 2 + k = omega arith in
           rw (j, ← get_or-drop 2 t k 0) (count_last n (drop 2 t) k e)
 
-  fine_code : (n reason letter : ℕ) → 3 ≤ n → reasons.bad_x ≤ reason → reason ≤ reasons.bad_capital_u → letter ≡ byte t 1 → byte t 1 < 0x80
+  fine_code : (n : ℕ) (reason : Reason) (letter : ℕ) → 3 ≤ n → reason_number reason ≤ reasons.unknown_escape → letter ≡ byte t 1 → byte t 1 < 0x80
       → PieceFacts t (code_piece n reason letter (drop 2 t))
   unfolding code_piece
-  fine_code n reason letter h lo hi nm ascii =
+  fine_code n reason letter h hi nm ascii =
       let l = drop 2 t in
       let bad : n ≤ length l → PieceFacts t (Bad reason letter (hex_count n l + 2)) =
-      λ b. refused t reason letter (hex_count n l + 2) (omega (arith, length-drop 2 t, count_le n l)) lo (omega arith) nm (λ _. code_last n ascii) in
-      pick_case (PieceFacts t) (ltb (length l) n) (λ _. bad_2 reason letter lo (omega arith) nm (λ _. ascii))
+      λ b. refused t reason letter (hex_count n l + 2) (omega (arith, length-drop 2 t, count_le n l)) hi nm (λ _. code_last n ascii) in
+      pick_case (PieceFacts t) (ltb (length l) n) (λ _. bad_2 reason letter hi nm (λ _. ascii))
       (λ e. let b : n ≤ length l = ltb-false (length l) n e in
       pick_case (PieceFacts t) (ltb (hex_count n l) n) (λ _. bad b)
       (λ f. pick_case (PieceFacts t) (is_scalar (hex_value n 0 l))
       (λ _. let few = (encode_length (hex_value n 0 l)).1 in escaped t _ (n + 2) (omega (arith, length-drop 2 t)) (omega arith))
       (λ _. let q : hex_count n l ≡ n = omega (arith, count_le n l, ltb-false (hex_count n l) n f) in rw q at (bad b))))
 
+  fine_letter : (v : Option ℕ) → PieceFacts t (letter_piece v t)
+  unfolding reason_number
+  fine_letter (Some b) = escaped t (b ∷ []) 2 (omega arith) (lit≤ tt)
+  fine_letter None =
+      let e : ℕ = byte t 1 in
+      pick_case (PieceFacts t) (eqb e 0x78) (λ x. fine_hex (eqb-true e 0x78 x))
+      (λ _. pick_case (PieceFacts t) (eqb e 0x75)
+      (λ x. let q = eqb-true e 0x75 x in fine_code 4 R.BadU 0x75 (lit≤ tt) (lit≤ tt) (sym q) (omega arith))
+      (λ _. pick_case (PieceFacts t) (eqb e 0x55)
+      (λ x. let q = eqb-true e 0x55 x in fine_code 8 R.BadCapitalU 0x55 (lit≤ tt) (lit≤ tt) (sym q) (omega arith))
+      (λ _. pick_case (PieceFacts t) (within 48 51 e) (λ x. let q = within_high 48 51 e x in fine_oct (omega arith))
+      (λ _. bad_2 R.UnknownEscape e (lit≤ tt) refl (λ n. true_false true refl n)))))
+
   fine_escape : PieceFacts t (escape_piece t)
   unfolding escape_piece
-  fine_escape =
-      let e : ℕ = byte t 1 in
-      pick_case (PieceFacts t) (eqb (simple_of e) 0)
-      (λ _. pick_case (PieceFacts t) (eqb e 0x78) (λ x. fine_hex (eqb-true e 0x78 x))
-      (λ _. pick_case (PieceFacts t) (eqb e 0x75)
-      (λ x. let q = eqb-true e 0x75 x in fine_code 4 reasons.bad_u 0x75 (lit≤ tt) (lit≤ tt) (lit≤ tt) (sym q) (omega arith))
-      (λ _. pick_case (PieceFacts t) (eqb e 0x55)
-      (λ x. let q = eqb-true e 0x55 x in fine_code 8 reasons.bad_capital_u 0x55 (lit≤ tt) (lit≤ tt) (lit≤ tt) (sym q) (omega arith))
-      (λ _. pick_case (PieceFacts t) (within 48 51 e) (λ x. let q = within_high 48 51 e x in fine_oct (omega arith))
-      (λ _. bad_2 reasons.unknown_escape e (lit≤ tt) (lit≤ tt) refl (λ n. absurd (n refl)))))))
-      (λ _. escaped t (_ ∷ []) 2 (omega arith) (lit≤ tt))
+  fine_escape = fine_letter (simple_of (byte t 1))
 
 front : (c : ℕ) (l : List ℕ) (k : ℕ) → eqb c k ≡ true → k < 0x80 → Front (c ∷ l)
 front c l k e h = let q = eqb-true c k e in record { some = omega arith; ascii = omega arith }

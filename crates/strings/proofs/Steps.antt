@@ -7,6 +7,7 @@ use lib.ListN.{length, drop, take, length-drop}
 use mir.Syntax.{w64}
 use mir.Val.{Fits}
 use Rattle.base.proofs.Reaches.{rest_is}
+use Rattle.token.specs.declared.reason.Reason.{Reason}
 use Rattle.lexeme.specs.declared.Mode.{Mode}
 use Rattle.strings.specs.Piece.{piece_of}
 use Rattle.strings.specs.Decode.{step_of}
@@ -24,7 +25,7 @@ module _ (m : Mode) (i : ℕ) (s : List ℕ) (q p : Piece) (is : q ≡ piece_of 
   step_of_mode n t f = step_row (rw t f)
 
 -- the end of a bad escape is within the text
-pub bad_fits : (s : List ℕ) (i : ℕ) (q : Piece) (reason letter used : ℕ) → i ≤ length s → length s < 2 ^ 64
+pub bad_fits : (s : List ℕ) (i : ℕ) (q : Piece) (reason : Reason) (letter used : ℕ) → i ≤ length s → length s < 2 ^ 64
     → q ≡ piece_of (take (length s - i) (drop i s)) → q ≡ piece.Bad reason letter used → Fits w64 (i + used)
 bad_fits s i q reason letter used h f e k =
     let p : piece_of (drop i s) ≡ piece.Bad reason letter used = sym (rw (rest_is s i) at e) ∙ k in

@@ -2,17 +2,19 @@
 -- the text, one turn at a time. Assumes nothing.
 use mathlib.Core.Path.{◌≡◌, refl, sym, ap, ◌∙◌}
 use mathlib.Core.Bool.{Bool, true, false}
-use mathlib.Core.List.{List, [], ◌∷◌, ◌++◌}
-use Prim.Native.Nat.{ℕ, ◌+◌, ◌*◌, ◌≤◌, ◌<◌}
+use mathlib.Core.List.{List, [], ◌++◌}
+use Rattle.std.proofs.Common.{Option, Some, None, is_some}
+use mir.Syntax.{w64}
+use mir.Val.{Fits, bool_byte}
+use Prim.Native.Nat.{ℕ, ◌+◌, ◌-◌, ◌*◌, ◌^◌, ◌≤◌, ◌<◌}
 use native.Mathlib.Nat.{add-zero, add_assoc}
 use native.Mathlib.Omega.{arith}
 use lib.Dec.{eqb, lit≤}
 use lib.ListN.{length, drop, length-append}
 use lib.Seq.{sets, drop-cons}
-use Rattle.base.specs.Choice.{pick}
 use Rattle.base.specs.Bytes.{byte}
 use Rattle.base.proofs.Stores.{empty}
-use Rattle.base.proofs.Tests.{by_cases, in_text, pick_le}
+use Rattle.base.proofs.Tests.{by_cases, in_text}
 use Rattle.utf8.specs.Grammar.{Octets}
 use Rattle.utf8.specs.State.{is_between, push_all}
 use Rattle.utf8.specs.declared.state.State.{State}
@@ -20,13 +22,13 @@ use Rattle.utf8.specs.declared.state.State.TheVariants.{Between}
 use Rattle.utf8.specs.Character.{octets_of}
 use Rattle.utf8.specs.declared.character.Encoded.{Encoded}
 use Rattle.utf8.proofs.States.{push_append, between_is, octets_fed}
-use Rattle.token.specs.Reason as reasons
+use Rattle.token.specs.declared.reason.Reason.{Reason}
 use Rattle.lexeme.specs.Lexeme.{Note}
 use Rattle.lexeme.specs.declared.Mode.{Mode}
 use Rattle.lexeme.specs.declared.Mode.TheVariants.{Strict}
 use Rattle.strings.specs.Piece.{piece_of}
 use Rattle.strings.specs.Plain.{Spells}
-use Rattle.strings.specs.Decode.{Decoded, step_of, letter_detail, step_notes, prepend}
+use Rattle.strings.specs.Decode.{Decoded, step_of, step_notes, prepend}
 use Rattle.strings.specs.Helpers.{measured, Sized}
 use Rattle.strings.specs.Literal.{literal_of}
 use Rattle.strings.specs.declared.literal.End.{End}
@@ -34,7 +36,8 @@ use Rattle.strings.specs.declared.literal.End.TheVariants as end
 use Rattle.strings.specs.declared.literal.Step.{Step}
 use Rattle.strings.specs.declared.literal.Step.TheVariants.{Go, Stop}
 use Rattle.strings.proofs.PieceFacts.{Taken}
-use Rattle.strings.proofs.Decodes.{from, Gives, went, from_stop, step_gives}
+use Rattle.strings.proofs.Decodes.{from, Gives, went, from_stop, step_gives, step_less}
+use Rattle.strings.proofs.Parts.{spells_ge}
 use Rattle.base.proofs.Storings.{Storing, storing_first, storing_end, storing_room, storing_more}
 
 -- where a quote stands, the text goes on
@@ -42,19 +45,17 @@ pub quote_in : (s : List ℕ) (e : ℕ) → byte s e ≡ 0x22 → e < length s
 quote_in s e q = in_text (λ x. eqb x 0x22) s e refl (rw q)
 
 -- a step makes one report or none
-length_one : (x : Bool) (r : Note) → length (pick x [] (r ∷ [])) ≡ pick x 0 1
-length_one true r = refl
-length_one false r = refl
-
-notes_count : (reason letter at : ℕ) → length (step_notes reason letter at) ≡ pick (eqb reason reasons.none) 0 1
+notes_count : (reason : Option Reason) (letter at : ℕ) → length (step_notes reason letter at) ≡ bool_byte (is_some reason)
 unfolding step_notes
-notes_count reason letter at = length_one (eqb reason reasons.none) (record { reason = reason; detail = letter_detail reason letter; offset = at + 1 })
+notes_count None letter at = refl
+notes_count (Some r) letter at = refl
 
-count_le : (x : Bool) → pick x 0 1 ≤ 1
-count_le x = pick_le x (lit≤ tt) (lit≤ tt)
+count_le : (x : Bool) → bool_byte x ≤ 1
+count_le true = lit≤ tt
+count_le false = lit≤ tt
 
-pub notes_le : (reason letter at : ℕ) → length (step_notes reason letter at) ≤ 1
-notes_le reason letter at = rw (notes_count reason letter at) (count_le (eqb reason reasons.none))
+pub notes_le : (reason : Option Reason) (letter at : ℕ) → length (step_notes reason letter at) ≤ 1
+notes_le reason letter at = rw (notes_count reason letter at) (count_le (is_some reason))
 
 measured_prepend : (c r : ℕ) (t : State) (bs : List ℕ) (ns : List Note) (d : Decoded)
     → measured c r t (prepend bs ns d) ≡ measured (c + length bs) (r + length ns) (push_all t bs) d
@@ -83,10 +84,11 @@ pub record Measuring (m : Mode) (s : List ℕ) (i count reports : ℕ) (state : 
 pub measuring_first : (m : Mode) (s : List ℕ) (t : State) → 0 < length s → t ≡ Between → Measuring m s 1 0 0 t
 measuring_first m s t h e = record { inside = h; few_bytes = lit≤ tt; few_reports = lit≤ tt; is = rw e refl }
 
-module _ {m : Mode} {s : List ℕ} {i count reports : ℕ} {state : State} (u : Measuring m s i count reports state) where
-  -- after a part
-  pub measuring_part : {e size : ℕ} → Spells s i e size × (is_between state ≡ false → size ≡ 0) → Measuring m s e (count + size) reports state
-  measuring_part {e} {size} part =
+-- after a part, which ends at e and stands for `size` bytes
+module _ {m : Mode} {s : List ℕ} {i count reports : ℕ} {state : State} (u : Measuring m s i count reports state) {e size : ℕ}
+    (part : Spells s i e size × (is_between state ≡ false → size ≡ 0)) where
+  parted : Measuring m s e (count + size) reports state
+  parted =
       let p : Spells s i e size = part.0 in
       record {
         inside = p.inside;
@@ -99,35 +101,58 @@ module _ {m : Mode} {s : List ℕ} {i count reports : ℕ} {state : State} (u : 
             ∙ rw (p.count, fed_still state p.bytes p.whole (λ n. p.count ∙ part.1 n), add-zero reports);
       }
 
-  -- a step
-  module _ {q : Step} (is : q ≡ step_of m i (piece_of (drop i s))) where
+  pub part_in : e ≤ length s
+  part_in = parted.inside
+
+  pub part_fits : length s < 2 ^ 64 → Fits w64 (count + size)
+  part_fits l = omega (arith, parted.few_bytes, parted.inside)
+
+  -- the literal stops there
+  module _ {q : Step} (is : q ≡ step_of m e (piece_of (drop e s))) where
     pub measuring_stop : {x : End} {p : ℕ} → q ≡ Stop x p
-        → record { count = count; reports = reports; stop = p; end = x; state = state } ≡ measured 0 0 Between (literal_of m s)
+        → record { count = count + size; reports = reports; stop = p; end = x; state = state } ≡ measured 0 0 Between (literal_of m s)
     unfolding push_all literal_of
-    measuring_stop h = sym (u.is ∙ ap (measured count reports state) (from_stop m s i is h) ∙ simp add-zero)
+    measuring_stop h = sym (parted.is ∙ ap (measured (count + size) reports state) (from_stop m s e is h) ∙ simp add-zero)
 
-    module _ {enc : Encoded} {used reason : ℕ} (h : q ≡ Go enc used reason) where
-      gives : Gives m s i (octets_of enc) (step_notes reason (byte enc.bytes 1) i) enc.len (i + used)
-      gives = step_gives m s i is h u.inside
+  -- at a quote
+  module _ (x : ℕ) (ex : x ≡ byte s e) (q : x ≡ 0x22) where
+    pub quote_fits : length s < 2 ^ 64 → Fits w64 (e + 1)
+    quote_fits l = omega (arith, quote_in s e (sym ex ∙ q))
 
-      pub measuring_go : (t : State) (k : ℕ) → t ≡ push_all state (octets_of enc) → k ≡ pick (eqb reason reasons.none) 0 1
-          → Measuring m s (i + used) (count + enc.len) (reports + k) t
-      measuring_go t k et ek =
-          let f : Taken enc.len used (length (drop i s)) = (went m s i is h).taken in
-          let bs : List ℕ = octets_of enc in
-          record {
-            inside = gives.inside;
-            few_bytes = omega (arith, u.few_bytes);
-            few_reports = omega (arith, u.few_reports, count_le (eqb reason reasons.none));
-            is =
-                u.is
-                ∙ ap (measured count reports state) gives.is
-                ∙ measured_prepend count reports state bs (step_notes reason (byte enc.bytes 1) i) (from m s (i + used))
-                ∙ rw (gives.count, notes_count reason (byte enc.bytes 1) i, et, ek) refl;
-          }
+    pub measuring_quote : record { count = count + size; reports = reports; stop = e + 1; end = end.Closed; state = state } ≡ measured 0 0 Between (literal_of m s)
+    measuring_quote = measuring_stop (quote_stop m s e x ex q) refl
 
-      pub count_in : count + enc.len ≤ length s
-      count_in = let f = (went m s i is h).taken in omega (arith, u.few_bytes, gives.inside)
+  -- a step goes on
+  module _ {q : Step} (is : q ≡ step_of m e (piece_of (drop e s))) {enc : Encoded} {used : ℕ} {reason : Option Reason} (h : q ≡ Go enc used reason) where
+    gives : Gives m s e (octets_of enc) (step_notes reason (byte enc.bytes 1) e) enc.len (e + used)
+    gives = step_gives m s e is h part_in
+
+    pub measuring_less : length s - (e + used) < length s - i
+    measuring_less = step_less m s e is h part_in i (spells_ge part.0)
+
+    pub measuring_go : (bs : List ℕ) (t : State) (b : Bool) (k : ℕ) → bs ≡ octets_of enc → t ≡ push_all state bs → b ≡ is_some reason → k ≡ bool_byte b
+        → Measuring m s (e + used) (count + size + enc.len) (reports + k) t
+    measuring_go bs t b k eb et es ek =
+        let f : Taken enc.len used (length (drop e s)) = (went m s e is h).taken in
+        record {
+          inside = gives.inside;
+          few_bytes = omega (arith, parted.few_bytes);
+          few_reports = omega (arith, parted.few_reports, count_le b);
+          is =
+              parted.is
+              ∙ ap (measured (count + size) reports state) gives.is
+              ∙ measured_prepend (count + size) reports state (octets_of enc) (step_notes reason (byte enc.bytes 1) e) (from m s (e + used))
+              ∙ rw (gives.count, notes_count reason (byte enc.bytes 1) e, et, eb, ek, es) refl;
+        }
+
+    pub step_fits : length s < 2 ^ 64 → Fits w64 (count + size + enc.len)
+    step_fits l = let f = (went m s e is h).taken in omega (arith, parted.few_bytes, gives.inside)
+
+    pub reports_fit : (b : Bool) (k : ℕ) → k ≡ bool_byte b → length s < 2 ^ 64 → Fits w64 (reports + k)
+    reports_fit b k ek l = let f = (went m s e is h).taken in omega (arith, parted.few_reports, gives.inside, count_le b)
+
+    pub used_fits : length s < 2 ^ 64 → Fits w64 (e + used)
+    used_fits l = omega (arith, gives.inside)
 
 -- ---- `put_string`
 

@@ -1,5 +1,6 @@
 -- The token that a string literal is, its decoded bytes and its reports: `lex_string` and `string_token`.
-use Rattle.std.specs.Prelude.{Option, Some, None, is_some, option_or, Bool, List, [], ◌∷◌, ◌++◌, ℕ, eqb, length, drop}
+use Rattle.std.specs.Prelude.{Option, Some, None, is_some, Bool, List, [], ◌∷◌, ◌++◌, ℕ, eqb, length, drop}
+use Rattle.std.specs.Option.{option_or}
 use Rattle.base.specs.Choice.{pick}
 use Rattle.utf8.specs.Grammar.{valid_to}
 use Rattle.utf8.specs.Check.{char_end}

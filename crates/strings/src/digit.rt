@@ -1,51 +1,47 @@
 // Digits, and the escapes of one letter.
-ghost use Rattle.std.specs.Prelude.{◌≡◌};
+ghost use Rattle.std.specs.Prelude.{◌≡◌, ◌<◌, IfSome};
 ghost use Rattle.strings.specs.Piece.{hex_of, oct_of, simple_of};
 
-use base::class::is_digit;
-
-// The value of a hexadecimal digit; 16 for any other byte.
-pub fn hex_val(c: u8) -> u8
-    ensures { result ≡ hex_of c }
+// The value of a hexadecimal digit.
+#[tactic(auto, unfolding(crate::specs::Piece::hex_of))]
+pub fn hex_val(c: u8) -> Option<u8>
+    ensures is { result ≡ hex_of c }
+    ensures digit { IfSome result (λ d. d < 16) }
 {
-    if is_digit(c) {
-        return c - 48;
+    match c {
+        b'0'..=b'9' => Some(c - b'0'),
+        b'A'..=b'F' => Some(c - b'A' + 10),
+        b'a'..=b'f' => Some(c - b'a' + 10),
+        _ => None,
     }
-    if (b'A' <= c) & (c <= b'F') {
-        return c - 55;
-    }
-    if (b'a' <= c) & (c <= b'f') {
-        return c - 87;
-    }
-    16
 }
 
-// The value of an octal digit; 8 for any other byte.
-pub fn oct_val(c: u8) -> u8
-    ensures { result ≡ oct_of c }
+// The value of an octal digit.
+#[tactic(auto, unfolding(crate::specs::Piece::oct_of))]
+pub fn oct_val(c: u8) -> Option<u8>
+    ensures is { result ≡ oct_of c }
+    ensures digit { IfSome result (λ d. d < 8) }
 {
-    if (b'0' <= c) & (c <= b'7') {
-        return c - 48;
+    match c {
+        b'0'..=b'7' => Some(c - b'0'),
+        _ => None,
     }
-    8
 }
 
-// The byte that an escape of one letter stands for; 0 for any other letter.
-pub fn simple(e: u8) -> u8
+// The byte that an escape of one letter stands for.
+#[tactic(auto, unfolding(crate::specs::Piece::simple_of))]
+pub fn simple(e: u8) -> Option<u8>
     ensures { result ≡ simple_of e }
 {
     match e {
-        b'"' => b'"',
-        b'\\' => b'\\',
-        b'\'' => b'\'',
-        b'?' => b'?',
-        b'a' => 0x07,
-        b'b' => 0x08,
-        b'f' => 0x0C,
-        b'n' => b'\n',
-        b'r' => b'\r',
-        b't' => b'\t',
-        b'v' => 0x0B,
-        _ => 0,
+        b'"' | b'\\' | b'\'' | b'?' => Some(e),
+        b'a' => Some(0x07),
+        b'b' => Some(0x08),
+        b'f' => Some(0x0C),
+        b'n' => Some(b'\n'),
+        b'r' => Some(b'\r'),
+        b't' => Some(b'\t'),
+        b'v' => Some(0x0B),
+        _ => None,
     }
 }

@@ -10,76 +10,65 @@ ghost use Rattle.strings.specs.Helpers.{Sized};
 use crate::literal::{End, Step, measure_literal, ordinary_end, put_simple, step_at};
 use lexeme::{Lexeme, Mode};
 use token::kind::TokenKind;
-use token::reason;
+use token::reason::Reason;
 use utf8::check::char_end;
 
-// The reason that an ending gives a strict literal, or none.
-fn end_reason(end: End) -> usize
+// The reason that an ending gives a strict literal.
+#[tactic(auto, unfolding(crate::specs::Literal::end_reason))]
+fn end_reason(end: End) -> Option<Reason>
     ensures { result ≡ end_reason end }
 {
     match end {
-        End::Closed => reason::NONE,
-        End::AtNewline => reason::NEWLINE_IN_STRING,
-        End::Cut => reason::OPEN_ESCAPE,
-        End::Open => reason::OPEN_STRING,
-        End::Bad { reason, letter: _ } => reason,
+        End::Closed => None,
+        End::AtNewline => Some(Reason::NewlineInString),
+        End::Cut => Some(Reason::OpenEscape),
+        End::Open => Some(Reason::OpenString),
+        End::Bad { reason, .. } => Some(reason),
     }
 }
 
 // The detail of a bad escape: the letter, where the escape is unknown.
-pub fn letter_detail(reason: usize, letter: u8) -> usize
+#[tactic(auto, unfolding(crate::specs::Decode::letter_detail))]
+pub fn letter_detail(reason: Reason, letter: u8) -> usize
     ensures { (result ≡ letter_detail reason letter) × (result ≤ 255) }
 {
-    if reason == reason::UNKNOWN_ESCAPE {
-        return letter as usize;
+    if reason.is_unknown_escape() {
+        usize::from(letter)
+    } else {
+        0
     }
-    0
 }
 
 // The detail of an ending.
+#[tactic(auto, unfolding(crate::specs::Literal::end_detail))]
 fn end_detail(end: End) -> usize
     ensures { result ≡ end_detail end }
 {
     match end {
-        End::Closed => 0,
-        End::AtNewline => 0,
-        End::Cut => 0,
-        End::Open => 0,
+        End::Closed | End::AtNewline | End::Cut | End::Open => 0,
         End::Bad { reason, letter } => letter_detail(reason, letter),
     }
 }
 
 // Where an ending leaves the token's end: an unknown escape's after the character that its letter begins.
+#[tactic(auto, unfolding(crate::specs::Literal::literal_end))]
 fn end_of(s: &[u8], end: End, stop: usize) -> usize
     ensures { result ≡ literal_end s.now end stop }
 {
     match end {
-        End::Closed => stop,
-        End::AtNewline => stop,
-        End::Cut => stop,
-        End::Open => stop,
-        End::Bad { reason, letter: _ } => {
-            if reason == reason::UNKNOWN_ESCAPE {
-                return char_end(s, stop);
-            }
-            stop
-        }
+        End::Bad { reason, .. } if reason.is_unknown_escape() => char_end(s, stop),
+        _ => stop,
     }
 }
 
 // How many reports a tolerant ending makes.
+#[tactic(auto, unfolding(crate::specs::Literal::end_notes))]
 fn end_reports(end: End) -> usize
     ensures { (result ≡ length (end_notes end)) × (result ≤ 1) }
 {
     match end {
-        End::Closed => 0,
-        End::AtNewline => 1,
-        End::Cut => 1,
-        End::Open => 1,
-        End::Bad {
-            reason: _,
-            letter: _,
-        } => 0,
+        End::Closed | End::Bad { .. } => 0,
+        End::AtNewline | End::Cut | End::Open => 1,
     }
 }
 
@@ -91,12 +80,11 @@ fn lex_strict(s: &[u8]) -> Lexeme
     let m = measure_literal(s, Mode::Strict);
     let end = m.end;
     let stop = m.stop;
-    let reason = end_reason(end);
-    if reason != reason::NONE {
+    if let Some(reason) = end_reason(end) {
         return Lexeme::illegal(reason, end_detail(end), end_of(s, end, stop));
     }
     if !m.state.is_between() {
-        return Lexeme::illegal(reason::STRING_NOT_UTF8, 0, stop);
+        return Lexeme::illegal(Reason::StringNotUtf8, 0, stop);
     }
     Lexeme::extent(TokenKind::String, stop, 0, m.count, 0)
 }
@@ -113,7 +101,7 @@ fn lex_tolerant(s: &[u8]) -> Lexeme
     if m.state.is_between() {
         return Lexeme::extent(TokenKind::String, stop, 0, m.count, reports);
     }
-    Lexeme::illegal_reported(reason::STRING_NOT_UTF8, 0, stop, reports)
+    Lexeme::illegal_reported(Reason::StringNotUtf8, 0, stop, reports)
 }
 
 // The string literal at the front of a slice.

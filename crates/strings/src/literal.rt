@@ -7,7 +7,6 @@ ghost use Rattle.base.specs.Bytes.{byte};
 ghost use Rattle.base.specs.Runs.{reach};
 ghost use Rattle.utf8.specs.Grammar.{Octets};
 ghost use Rattle.utf8.specs.State.{is_between};
-ghost use Rattle.token.specs.Reason as reasons;
 ghost use Rattle.strings.specs.Piece.{piece_of};
 ghost use Rattle.strings.specs.Plain.{is_ordinary, in_ordinary, simple_at, simple_bytes, Spells};
 ghost use Rattle.strings.specs.Decode.{step_of};
@@ -18,7 +17,7 @@ use crate::digit::simple;
 use crate::piece::{Piece, next_piece};
 use base::runs::{Run, past_windows, reach_bytes};
 use lexeme::Mode;
-use token::reason;
+use token::reason::Reason;
 use utf8::character::Encoded;
 use utf8::check::is_inside;
 use utf8::state::State;
@@ -30,17 +29,17 @@ pub enum End {
     AtNewline,
     Cut,
     Open,
-    Bad { reason: usize, letter: u8 },
+    Bad { reason: Reason, letter: u8 },
 }
 
 // One step, with what the mode makes of it.
 #[derive(Clone, Copy)]
 pub enum Step {
-    // The bytes of `encoded` are decoded, from `used` bytes of text. `reason` is none, or that of a report, whose letter is the second byte.
+    // The bytes of `encoded` are decoded, from `used` bytes of text. `reason` is that of a report, whose letter is the second byte.
     Go {
         encoded: Encoded,
         used: usize,
-        reason: usize,
+        reason: Option<Reason>,
     },
     // The literal ends, at `stop`.
     Stop {
@@ -83,7 +82,7 @@ pub fn step_at(s: &[u8], i: usize, mode: Mode) -> Step
         Piece::Bytes { encoded, used } => Step::Go {
             encoded,
             used,
-            reason: reason::NONE,
+            reason: None,
         },
         Piece::Bad {
             reason,
@@ -96,7 +95,7 @@ pub fn step_at(s: &[u8], i: usize, mode: Mode) -> Step
                 Step::Go {
                     encoded: Encoded { bytes, len: 2 },
                     used,
-                    reason,
+                    reason: Some(reason),
                 }
             }
         },
@@ -108,16 +107,6 @@ pub fn step_at(s: &[u8], i: usize, mode: Mode) -> Step
         Piece::Cut => stop_at(End::Cut, i + 1),
         Piece::Open => stop_at(End::Open, i),
     }
-}
-
-// How many reports a step makes.
-fn report_count(reason: usize) -> usize
-    ensures { result ≡ pick (eqb reason reasons.none) 0 1 }
-{
-    if reason == reason::NONE {
-        return 0;
-    }
-    1
 }
 
 // The bytes that stand for themselves.
@@ -133,6 +122,7 @@ impl Run for Ordinary {
 }
 
 // A byte that stands for itself.
+#[tactic(auto, unfolding(crate::specs::Plain::is_ordinary))]
 fn is_ordinary(b: u8) -> bool
     ensures { result ≡ is_ordinary b }
 {
@@ -150,13 +140,14 @@ pub fn ordinary_end(s: &[u8], i: usize) -> usize
     reach_bytes(Ordinary, s, past_windows(Ordinary, s, i))
 }
 
-// The byte that the escape of one letter at i stands for; 0 where there is none.
-fn simple_at(s: &[u8], i: usize) -> u8
+// The byte that the escape of one letter at i stands for.
+#[tactic(auto, unfolding(crate::specs::Plain::simple_at))]
+fn simple_at(s: &[u8], i: usize) -> Option<u8>
     requires { i < length s.now }
     ensures { result ≡ simple_at (byte s.now i) (byte s.now (i + 1)) }
 {
     if s[i] != b'\\' {
-        return 0;
+        return None;
     }
     simple(base::peek(s, i + 1))
 }
@@ -169,10 +160,9 @@ fn simple_count(s: &[u8], i: usize) -> usize
     let mut e = i;
     let mut n = 0;
     while e < s.len() {
-        let b = simple_at(s, e);
-        if b == 0 {
+        let Some(_) = simple_at(s, e) else {
             return n;
-        }
+        };
         n += 1;
         e += 2;
     }
@@ -187,10 +177,9 @@ pub fn put_simple(s: &[u8], i: usize, out: &mut [u8], place: usize) -> usize
     let mut e = i;
     let mut n = 0;
     while e < s.len() {
-        let b = simple_at(s, e);
-        if b == 0 {
+        let Some(b) = simple_at(s, e) else {
             return n;
-        }
+        };
         out[place + n] = b;
         n += 1;
         e += 2;
@@ -253,7 +242,7 @@ pub fn measure_literal(s: &[u8], mode: Mode) -> Measure
             } => {
                 state = state.push_all(encoded.as_slice());
                 count += encoded.len;
-                reports += report_count(reason);
+                reports += usize::from(reason.is_some());
                 i = e + used;
             }
             Step::Stop { end, stop } => {

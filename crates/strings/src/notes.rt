@@ -1,10 +1,8 @@
 // Writing the reports of a string literal.
-ghost use Rattle.std.specs.Prelude.{◌≡◌, [], ◌∷◌, ◌+◌, ◌≤◌, eqb, length};
+ghost use Rattle.std.specs.Prelude.{◌≡◌, [], ◌∷◌, ◌+◌, ◌≤◌, length, MatchOption};
 ghost use Rattle.std.proofs.lemmas.List.Edits.{sets};
-ghost use Rattle.base.specs.Choice.{pick};
 ghost use Rattle.token.specs.Place.{place_at};
-ghost use Rattle.token.specs.Helpers.{Walkable, last_reason};
-ghost use Rattle.token.specs.Reason as reasons;
+ghost use Rattle.token.specs.Helpers.{Walkable};
 ghost use Rattle.token.specs.Layout.{report_width, report_numbers};
 ghost use Rattle.lexeme.specs.Lexeme.{note_at_start};
 ghost use Rattle.lexeme.specs.Reports.{report_at};
@@ -18,21 +16,18 @@ use crate::literal::{End, Step, ordinary_end, step_at};
 use lexeme::{Mode, put_report};
 use token::layout::REPORT_WIDTH;
 use token::place::{Place, walk};
-use token::reason;
+use token::reason::Reason;
 
-// The reason of the report that a tolerant ending makes, or none.
-fn end_report(end: End) -> usize
-    ensures { (end_notes end ≡ pick (eqb result reasons.none) [] (note_at_start result ∷ [])) × (result ≤ last_reason) }
+// The reason of the report that a tolerant ending makes.
+#[tactic(auto, unfolding(crate::specs::Literal::end_notes))]
+fn end_report(end: End) -> Option<Reason>
+    ensures { MatchOption result (end_notes end ≡ []) (λ reason. end_notes end ≡ note_at_start reason ∷ []) }
 {
     match end {
-        End::Closed => reason::NONE,
-        End::AtNewline => reason::STRING_ENDED_AT_NEWLINE,
-        End::Cut => reason::OPEN_ESCAPE,
-        End::Open => reason::OPEN_STRING,
-        End::Bad {
-            reason: _,
-            letter: _,
-        } => reason::NONE,
+        End::Closed | End::Bad { .. } => None,
+        End::AtNewline => Some(Reason::StringEndedAtNewline),
+        End::Cut => Some(Reason::OpenEscape),
+        End::Open => Some(Reason::OpenString),
     }
 }
 
@@ -41,12 +36,12 @@ fn put_note(
     text: &[u8],
     from: Place,
     to: usize,
-    reason: usize,
+    reason: Reason,
     letter: u8,
     out: &mut [i64],
     p: usize,
 ) -> Place
-    requires { Walkable text.now from to × (reason ≤ reasons.unknown_escape) × (p + report_width ≤ length out.old) }
+    requires { Walkable text.now from to × (p + report_width ≤ length out.old) }
     ensures { (result ≡ place_at text.now to) × (out.new ≡ sets out.old p (report_numbers (report_at (place_at text.now to) reason (letter_detail reason letter)))) }
 {
     let place = walk(text, from, to);
@@ -75,18 +70,16 @@ fn put_tolerant_notes(text: &[u8], start: Place, out: &mut [i64], at: usize)
                 reason,
             } => {
                 i = e + used;
-                if reason == reason::NONE {
+                let Some(reason) = reason else {
                     continue;
-                }
+                };
                 place = put_note(text, place, first + e + 1, reason, encoded.bytes[1], out, p);
                 p += REPORT_WIDTH;
             }
             Step::Stop { end, stop: _ } => {
-                let reason = end_report(end);
-                if reason == reason::NONE {
-                    return;
+                if let Some(reason) = end_report(end) {
+                    put_report(start, reason, 0, out, p);
                 }
-                put_report(start, reason, 0, out, p);
                 return;
             }
         }

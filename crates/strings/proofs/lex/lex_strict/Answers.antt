@@ -2,8 +2,8 @@
 use Rattle.strings.proofs.Judges.{strict_bad, strict_ill, strict_string}
 use Rattle.strings.proofs.lex.lex_strict.Goals as goal
 
-pub returns-then-reason-ne-NONE : goal.returns-then-reason-ne-NONE
-returns-then-reason-ne-NONE c = search strict_bad
+pub returns-in-Some : goal.returns-in-Some
+returns-in-Some c = search strict_bad
 
 pub returns-then-not-is_between : goal.returns-then-not-is_between
 returns-then-not-is_between c = search strict_ill

@@ -6,8 +6,8 @@ use Rattle.strings.proofs.literal.put_simple.Goals as goal
 pub loop-e-init : goal.loop-e-init
 loop-e-init c = search putting_first
 
-pub returns-then-b-eq0 : goal.returns-then-b-eq0
-returns-then-b-eq0 c = search (counting_stop, putting_stop)
+pub returns-in_default : goal.returns-in_default
+returns-in_default c = search (counting_stop, putting_stop)
 
 pub bounds-out-place : goal.bounds-out-place
 bounds-out-place c = search putting_room

@@ -5,8 +5,8 @@ use Rattle.strings.proofs.literal.simple_count.Goals as goal
 pub loop-e-init : goal.loop-e-init
 loop-e-init c = search counting_first
 
-pub returns-then-b-eq0 : goal.returns-then-b-eq0
-returns-then-b-eq0 c = search counting_stop
+pub returns-in_default : goal.returns-in_default
+returns-in_default c = search counting_stop
 
 pub overflow_add-n : goal.overflow_add-n
 overflow_add-n c = search counting_fits

@@ -1,5 +1,5 @@
 -- `put_tolerant_notes` stores the reports that are left after those that are stored already: a run of bytes is passed over, and then a step. Assumes nothing.
-use Rattle.strings.proofs.Notings.{noting_first, text_fits, noting_go, to_fits, to_fits_2, note_walks, note_small, note_room}
+use Rattle.strings.proofs.Notings.{noting_first, text_fits, noting_go, to_fits, to_fits_2, note_walks, note_room}
 use Rattle.strings.proofs.Notings.{note_fits, noting_note, noting_none, end_room, end_fits, noting_end}
 use Rattle.strings.proofs.Decodes.{step_less, run_ge, run_in}
 use Rattle.strings.proofs.notes.put_tolerant_notes.Goals as goal
@@ -13,11 +13,11 @@ step_at-st-requires c = search run_in
 pub overflow_add-i : goal.overflow_add-i
 overflow_add-i c = search text_fits
 
-pub loop-encoded-smaller-then-reason-eq-NONE : goal.loop-encoded-smaller-then-reason-eq-NONE
-loop-encoded-smaller-then-reason-eq-NONE c = search (step_less, run_ge, run_in)
+pub loop-encoded-smaller-in_default : goal.loop-encoded-smaller-in_default
+loop-encoded-smaller-in_default c = search (step_less, run_ge, run_in)
 
-pub loop-encoded-preserved-then-reason-eq-NONE : goal.loop-encoded-preserved-then-reason-eq-NONE
-loop-encoded-preserved-then-reason-eq-NONE c = search noting_go
+pub loop-encoded-preserved-in_default : goal.loop-encoded-preserved-in_default
+loop-encoded-preserved-in_default c = search noting_go
 
 pub overflow_add-first : goal.overflow_add-first
 overflow_add-first c = search to_fits
@@ -26,7 +26,7 @@ pub overflow_add-first-in-Go : goal.overflow_add-first-in-Go
 overflow_add-first-in-Go c = search to_fits_2
 
 pub put_note-place-requires : goal.put_note-place-requires
-put_note-place-requires c = search (note_walks, note_small, note_room)
+put_note-place-requires c = search (note_walks, note_room)
 
 pub overflow_add-p : goal.overflow_add-p
 overflow_add-p c = search note_fits
@@ -37,11 +37,11 @@ loop-encoded-smaller c = search (step_less, run_ge, run_in)
 pub loop-encoded-preserved : goal.loop-encoded-preserved
 loop-encoded-preserved c = search noting_note
 
-pub returns-then-reason-eq-NONE-2 : goal.returns-then-reason-eq-NONE-2
-returns-then-reason-eq-NONE-2 c = search noting_none
+pub returns-in_default-end_report : goal.returns-in_default-end_report
+returns-in_default-end_report c = let n = c.in_default-end_report.ensures in search noting_none
 
 pub put_report-requires : goal.put_report-requires
-put_report-requires c = search (end_room, end_fits)
+put_report-requires c = let n = c.in-Some-end_report.ensures in search (end_room, end_fits)
 
-pub returns-in-Stop : goal.returns-in-Stop
-returns-in-Stop c = search noting_end
+pub returns-in-Some-end_report : goal.returns-in-Some-end_report
+returns-in-Some-end_report c = let n = c.in-Some-end_report.ensures in search noting_end

@@ -7,9 +7,12 @@ use Prim.Native.Nat.{ℕ, zero, suc, ◌+◌, ◌-◌, ◌≤◌}
 use native.Mathlib.Nat.{add-zero}
 use native.Mathlib.Omega.{arith}
 use borrow.Author.Tests.{eqb-true}
+use borrow.Author.Rules.{rules}
+use denote.Enum.Bare.{sameb, same_true}
+use Rattle.lexeme.specs.contracts.Mode.{the_type}
 use lib.Dec.{eqb}
 use lib.ListN.{length, take, drop, length-append}
-use lib.Seq.{sets, length-sets}
+use lib.Seq.{sets}
 use Rattle.base.proofs.Tests.{and_left, and_right, zero_one}
 use Rattle.utf8.specs.Character.{octets_of}
 use Rattle.lexeme.specs.declared.Mode.{Mode}
@@ -22,7 +25,7 @@ use Rattle.strings.specs.declared.piece.Piece.TheVariants as piece
 use Rattle.strings.specs.declared.literal.End.TheVariants as end
 use Rattle.strings.proofs.PieceFacts.{Taken, PieceFacts, piece_facts}
 use Rattle.strings.proofs.Decodes.{from}
-use Rattle.strings.proofs.Turns.{Writing}
+use Rattle.strings.proofs.Writings.{Writing}
 use Rattle.strings.proofs.Bounds.{Bounds, bounds}
 
 -- what l stands for from the offset `at` on, as a closed strict literal
@@ -82,20 +85,17 @@ module _ {m : Mode} {s : List ℕ} {len : ℕ} {out₀ : List ℕ} {place until 
   pub text_left : i ≤ len
   text_left = let b : Bounds s i (from m s i) = bounds m s i u.inside in omega (arith, b.bytes_in, u.stop)
 
-  module _ {o : List ℕ} (eo : o ≡ sets out p (take (until - p) (drop i s))) where
-    pub last_same : length o ≡ length out₀
-    last_same = ap length eo ∙ length-sets out p (take (until - p) (drop i s)) ∙ u.store.same
-
-    -- as much text before the closing quote as bytes to write
-    pub last_copied : (strict : Bool) → (strict ≡ true → m ≡ Strict) → strict && eqb (until - p + 1) (len - i) ≡ true
-        → o ≡ sets out₀ place (literal_of m s).bytes
-    unfolding literal_of
-    last_copied strict is h =
-        let t : Bool = eqb (until - p + 1) (len - i) in
-        let q : m ≡ Strict = is (and_left strict t h) in
-        let k : Closing i (drop i s) (from m s i) = strict_closing m s i q (u.closed q) in
-        let e : until - p + 1 ≡ len - i = eqb-true (until - p + 1) (len - i) (and_right strict t h) in
-        let n : length (from m s i).bytes ≡ until - p = omega (arith, u.count) in
-        let w : (from m s i).bytes ≡ take (until - p) (drop i s) =
-        k.text (omega (arith, u.stop, text_left)) ∙ ap (λ (j : ℕ). take j (drop i s)) n in
-        eo ∙ sym (u.store.is ∙ ap (sets out p) w)
+  -- as much text before the closing quote as bytes to write
+  pub last_copied : (o : List ℕ) → o ≡ sets out p (take (i + (until - p) - i) (drop i s)) → (strict : Bool) → strict ≡ sameb the_type m Strict
+      → strict && eqb (until - p + 1) (len - i) ≡ true → o ≡ sets out₀ place (literal_of m s).bytes
+  unfolding literal_of
+  last_copied o eo strict is h =
+      let t : Bool = eqb (until - p + 1) (len - i) in
+      let f : i + (until - p) - i ≡ until - p = omega arith in
+      let q : m ≡ Strict = same_true the_type (search rules) _ _ (sym is ∙ and_left strict t h) in
+      let k : Closing i (drop i s) (from m s i) = strict_closing m s i q (u.closed q) in
+      let e : until - p + 1 ≡ len - i = eqb-true (until - p + 1) (len - i) (and_right strict t h) in
+      let n : length (from m s i).bytes ≡ until - p = omega (arith, u.count) in
+      let w : (from m s i).bytes ≡ take (until - p) (drop i s) =
+      k.text (omega (arith, u.stop, text_left)) ∙ ap (λ (j : ℕ). take j (drop i s)) n in
+      eo ∙ rw f (sym (u.store.is ∙ ap (sets out p) w))

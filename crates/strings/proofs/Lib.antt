@@ -2,8 +2,10 @@ mod Escapes
 mod PieceFacts
 mod Steps
 mod Decodes
+mod Pairs
 mod Parts
 mod Turns
+mod Writings
 mod Bounds
 mod Closings
 mod Judges

@@ -1,23 +1,22 @@
--- For `simple_at`, `simple_count`, `put_simple` and `part_at`, which read parts of a literal at once: escapes of one letter are counted and
--- stored one by one; parts that follow each other are one part; each leaves a well-formed rest. By the escapes. Assumes nothing.
+-- For `part_at`, which reads parts of a literal at once: parts that follow each other are one part, and each leaves a well-formed rest. By the
+-- escapes. Assumes nothing.
 use mathlib.Core.Path.{◌≡◌, refl, sym, ap, ◌∙◌}
 use mathlib.Core.Bool.{Bool, true, false, not, ◌&&◌, ◌||◌}
 use mathlib.Core.List.{List, [], ◌∷◌, ◌++◌, append_assoc}
-use Rattle.std.proofs.Common.{Option, Some, None}
+use Rattle.std.proofs.Common.{Option, Some}
 use Prim.Native.Nat.{ℕ, suc, ◌+◌, ◌-◌, ◌*◌, ◌^◌, ◌≤◌, ◌<◌}
-use native.Mathlib.Nat.{add-zero, add_assoc}
-use native.Mathlib.Numerals.{add-one}
 use native.Mathlib.Omega.{arith}
 use borrow.Author.Tests.{ne_eqb, eqb-true, ltb-true, ltb-false, not-false}
 use lib.Dec.{eqb, ltb}
-use lib.ListN.{length, take, drop, set, length-drop, length-append, drop_of_length-le, get_or-eq_default}
-use lib.Seq.{sets, drop-cons, drop-drop, get_or-drop}
+use lib.ListN.{length, take, drop, length-drop, length-append}
+use lib.Seq.{drop-drop, get_or-drop}
 use mir.Syntax.{w64}
 use mir.Val.{Fits}
-use Rattle.base.specs.Bytes.{byte}
 use Rattle.base.specs.Runs.{reach}
-use Rattle.base.proofs.Tests.{and_left, and_right, or_left, or_right, pick_case, pick_same, true_false, zero_one}
-use Rattle.utf8.specs.Grammar.{Octets, none}
+use Rattle.base.proofs.Reaches.{rest_is}
+use Rattle.base.proofs.Tests.{and_left, and_right, or_left, or_right, pick_case, true_false, zero_one}
+use Rattle.utf8.specs.Grammar.{Octets, none, valid_to}
+use Rattle.utf8.proofs.Valid.{valid_octets}
 use Rattle.utf8.specs.Onward.{Boundary}
 use Rattle.utf8.specs.Check.{is_tail, inside_char}
 use Rattle.utf8.proofs.Boundaries.{boundary_rest, rest_boundary, octets_cut, boundary_between, stop_boundary}
@@ -28,7 +27,6 @@ use Rattle.strings.specs.Piece.{look, letters, simple_of}
 use Rattle.strings.specs.Plain.{is_ordinary, in_ordinary, simple_at, simple_bytes, Spells}
 use Rattle.strings.specs.Decode.{prepend}
 use Rattle.strings.proofs.Decodes.{from, Gives, run_ge, run_in, run_gives, by_escapes, simple_in, simple_gives}
-use Rattle.base.proofs.Storings.{Storing, storing_first, storing_end, storing_room, storing_more}
 
 -- ---- text
 
@@ -67,10 +65,6 @@ at_ascii x y b =
     pick_case (λ (v : Option ℕ). v ≡ Some b → (b < 0x80) × (x < 0x80) × (y < 0x80)) (eqb x 0x5C)
     (λ t q. let l = look_ascii y b letters refl q in (l.0, omega (arith, eqb-true x 0x5C t), l.1)) (λ _ q. zero_one (cc))
 
-at_zero : (x : ℕ) → simple_at x 0 ≡ None
-unfolding simple_at simple_of letters
-at_zero x = pick_same (eqb x 0x5C) None
-
 simple_whole : (l : List ℕ) → Octets (simple_bytes l)
 simple_whole =
     by_escapes (λ l v. Octets v) (λ l. none) (λ x y b l e ih. octets_append (ascii_octets b (at_ascii x y b e).0) ih)
@@ -83,102 +77,6 @@ simples_rest =
     let a = at_ascii x y b e in
     let k : 2 * suc (length (simple_bytes l)) ≡ suc (suc (2 * length (simple_bytes l))) = omega arith in
     rw k (ih (ascii_rest y l a.2 (ascii_rest x (y ∷ l) a.1 o))))
-
--- the escapes from e on
-module _ (s : List ℕ) (e : ℕ) where
-  simples_end : length s ≤ e → simple_bytes (drop e s) ≡ []
-  unfolding simple_bytes
-  simples_end h = rw (drop_of_length-le s h)
-
-  module _ (h : e < length s) (v : Option ℕ) (is : v ≡ simple_at (byte s e) (byte s (e + 1))) where
-    two : e + 1 < length s → drop e s ≡ byte s e ∷ byte s (e + 1) ∷ drop (e + 2) s
-    two l =
-        let k : suc (e + 1) ≡ e + 2 = omega arith in
-        rw (drop-cons s e 0 h, ← add-one e, drop-cons s (e + 1) 0 l, k)
-
-    simples_stop : v ≡ None → simple_bytes (drop e s) ≡ []
-    unfolding simple_bytes
-    simples_stop z = go (ltb (e + 1) (length s)) refl
-      where
-        go : (t : Bool) → ltb (e + 1) (length s) ≡ t → simple_bytes (drop e s) ≡ []
-        go true l = rw (two (ltb-true (e + 1) (length s) l), ← is, z)
-        go false l = rw (drop-cons s e 0 h, drop_of_length-le s (rw (add-one e) at (ltb-false (e + 1) (length s) l)))
-
-    module _ (b : ℕ) (n : v ≡ Some b) where
-      simples_two : e + 1 < length s
-      simples_two = go (ltb (e + 1) (length s)) refl
-        where
-          go : (t : Bool) → ltb (e + 1) (length s) ≡ t → e + 1 < length s
-          go true l = ltb-true (e + 1) (length s) l
-          go false l =
-              let z : byte s (e + 1) ≡ 0 = get_or-eq_default s 0 (ltb-false (e + 1) (length s) l) in
-              let k : v ≡ None = is ∙ rw z (at_zero (byte s e)) in zero_one (cc)
-
-      simples_more : simple_bytes (drop e s) ≡ b ∷ simple_bytes (drop (e + 2) s)
-      unfolding simple_bytes
-      simples_more = rw (two simples_two, ← is, n)
-
--- `simple_count` at e
-pub record Counting (s : List ℕ) (i e n : ℕ) : Type 0 where
-  pub inside : e ≤ length s
-  pub few : n ≤ e
-  pub is : length (simple_bytes (drop i s)) ≡ n + length (simple_bytes (drop e s))
-
-pub counting_first : (s : List ℕ) (i : ℕ) → i ≤ length s → Counting s i i 0
-counting_first s i h = omega arith
-
-module _ (s : List ℕ) (i e n : ℕ) (u : Counting s i e n) where
-  pub counting_end : length s ≤ e → n ≡ length (simple_bytes (drop i s))
-  counting_end h = sym (u.is ∙ rw (simples_end s e h) (add-zero n))
-
-  module _ (h : e < length s) (v : Option ℕ) (is : v ≡ simple_at (byte s e) (byte s (e + 1))) where
-    pub counting_stop : v ≡ None → n ≡ length (simple_bytes (drop i s))
-    counting_stop z = sym (u.is ∙ rw (simples_stop s e h v is z) (add-zero n))
-
-    module _ (b : ℕ) (z : v ≡ Some b) where
-      pub counting_more : Counting s i (e + 2) (n + 1)
-      counting_more =
-          let l = simples_two s e h v is b z in
-          let q = ap length (simples_more s e h v is b z) in
-          omega (arith, u.few, u.is)
-
-      pub counting_fits : length s < 2 ^ 64 → Fits w64 (n + 1)
-      counting_fits l = omega (arith, counting_more.few, counting_more.inside)
-
-      pub counting_on : length s < 2 ^ 64 → Fits w64 (e + 2)
-      counting_on l = omega (arith, counting_more.inside)
-
--- `put_simple` at e, with the next byte to go to place + n
-pub record Putting (s : List ℕ) (i : ℕ) (out₀ : List ℕ) (place : ℕ) (out : List ℕ) (e n : ℕ) : Type 0 where
-  pub counted : Counting s i e n
-  pub store : Storing (simple_bytes (drop i s)) out₀ place (simple_bytes (drop e s)) out (place + n)
-
-pub putting_first : (s : List ℕ) (i : ℕ) (out : List ℕ) (place : ℕ) → i ≤ length s → place + length (simple_bytes (drop i s)) ≤ length out
-    → Putting s i out place out i 0
-putting_first s i out place h r = record { counted = counting_first s i h; store = rw (add-zero place) (storing_first r) }
-
-module _ (s : List ℕ) (i : ℕ) (out₀ : List ℕ) (place : ℕ) (out : List ℕ) (e n : ℕ) (u : Putting s i out₀ place out e n) where
-  pub putting_end : length s ≤ e → out ≡ sets out₀ place (simple_bytes (drop i s))
-  putting_end h = storing_end u.store (simples_end s e h)
-
-  module _ (h : e < length s) (v : Option ℕ) (is : v ≡ simple_at (byte s e) (byte s (e + 1))) where
-    pub putting_stop : v ≡ None → out ≡ sets out₀ place (simple_bytes (drop i s))
-    putting_stop z = storing_end u.store (simples_stop s e h v is z)
-
-    module _ (b : ℕ) (z : v ≡ Some b) where
-      pub putting_room : place + n < length out
-      putting_room =
-          let r = storing_room u.store (b ∷ []) (simple_bytes (drop (e + 2) s)) (simples_more s e h v is b z) {n = 1} refl in
-          omega arith
-
-      pub putting_more : Putting s i out₀ place (set out (place + n) b) (e + 2) (n + 1)
-      putting_more =
-          record {
-            counted = counting_more s i e n u.counted h v is b z;
-            store =
-                rw (← add_assoc place n 1)
-                (storing_more u.store (b ∷ []) (simple_bytes (drop (e + 2) s)) (simples_more s e h v is b z) refl (set out (place + n) b) refl);
-          }
 
 -- ---- parts
 
@@ -242,22 +140,27 @@ pub record Parting (s : List ℕ) (i end count : ℕ) : Type 0 where
 pub none_begun : (x y : Bool) → not x || y ≡ false → (x ≡ true) × (y ≡ false)
 none_begun x y e = (not-false x (or_left (not x) y e), or_right (not x) y e)
 
-pub parting_first : (s : List ℕ) (i : ℕ) → i ≤ length s → Octets s → inside_char s i ≡ false → Parting s i i 0
+pub parting_first : (s : List ℕ) (i : ℕ) → i ≤ length s → valid_to s ≡ length s → (x y : Bool) → y ≡ inside_char s i → not x || y ≡ false → Parting s i i 0
 unfolding inside_char
-parting_first s i h o e = record { spells = spells_none s i h; rest = (octets_cut o i h e).1 }
+parting_first s i h v x y is e =
+    let f : inside_char s i ≡ false = sym is ∙ (none_begun x y e).1 in
+    record { spells = spells_none s i h; rest = (octets_cut (valid_octets s v) i h f).1 }
 
 module _ (s : List ℕ) (i end count : ℕ) (u : Parting s i end count) (e : ℕ) (t : e ≡ reach in_ordinary s end) where
   pub run_inside : e ≤ length s
   run_inside = run_in s end e t u.spells.inside
 
-  module _ (n : ℕ) (is : n ≡ length (simple_bytes (drop e s))) where
+  module _ (n : ℕ) (is : n ≡ length (simple_bytes (take (length s - e) (drop e s)))) where
+    same_count : n ≡ length (simple_bytes (drop e s))
+    same_count = rw (rest_is s e) at is
+
     pub spells_more : Spells s i (e + 2 * n) (count + (e - end + n))
-    spells_more = spells_then u.spells (spells_then (spells_run s end e t u.spells.inside u.rest) (spells_simple s e n run_inside is))
+    spells_more = spells_then u.spells (spells_then (spells_run s end e t u.spells.inside u.rest) (spells_simple s e n run_inside same_count))
 
     pub parting_more : Parting s i (e + 2 * n) (count + (e - end + n))
     parting_more =
         let o : Octets (drop e s) = boundary_rest s e (run_boundary s end e t u.spells.inside u.rest) in
-        record { spells = spells_more; rest = rw (← is, drop-drop (2 * n) e s) at (simples_rest (drop e s) o) }
+        record { spells = spells_more; rest = rw (← same_count, drop-drop (2 * n) e s) at (simples_rest (drop e s) o) }
 
     pub sum_fits : length s < 2 ^ 64 → Fits w64 (e - end + n)
     sum_fits l = let p = spells_more in omega arith

@@ -1,17 +1,17 @@
--- For the loops of `measure_literal` and `put_string`: what is left to do from here on, with what is done, makes the whole. By the parts of
--- the text, one turn at a time. Assumes nothing.
+-- For the loop of `measure_literal`: what is left to measure from here on, with what is measured, makes the whole. By the parts of the text, one
+-- turn at a time. Assumes nothing.
 use mathlib.Core.Path.{◌≡◌, refl, sym, ap, ◌∙◌}
 use mathlib.Core.Bool.{Bool, true, false}
-use mathlib.Core.List.{List, [], ◌++◌}
+use mathlib.Core.List.{List, []}
 use Rattle.std.proofs.Common.{Option, Some, None, is_some}
 use mir.Syntax.{w64}
 use mir.Val.{Fits, bool_byte}
-use Prim.Native.Nat.{ℕ, ◌+◌, ◌-◌, ◌*◌, ◌^◌, ◌≤◌, ◌<◌}
+use Prim.Native.Nat.{ℕ, ◌+◌, ◌-◌, ◌^◌, ◌≤◌, ◌<◌}
 use native.Mathlib.Nat.{add-zero, add_assoc}
 use native.Mathlib.Omega.{arith}
 use lib.Dec.{eqb, lit≤}
 use lib.ListN.{length, drop, length-append}
-use lib.Seq.{sets, drop-cons}
+use lib.Seq.{drop-cons}
 use Rattle.base.specs.Bytes.{byte}
 use Rattle.base.proofs.Stores.{empty}
 use Rattle.base.proofs.Tests.{by_cases, in_text}
@@ -25,11 +25,10 @@ use Rattle.utf8.proofs.States.{push_append, between_is, octets_fed}
 use Rattle.token.specs.declared.reason.Reason.{Reason}
 use Rattle.lexeme.specs.Lexeme.{Note}
 use Rattle.lexeme.specs.declared.Mode.{Mode}
-use Rattle.lexeme.specs.declared.Mode.TheVariants.{Strict}
 use Rattle.strings.specs.Piece.{piece_of}
 use Rattle.strings.specs.Plain.{Spells}
 use Rattle.strings.specs.Decode.{Decoded, step_of, step_notes, prepend}
-use Rattle.strings.specs.Helpers.{measured, Sized}
+use Rattle.strings.specs.Helpers.{measured}
 use Rattle.strings.specs.Literal.{literal_of}
 use Rattle.strings.specs.declared.literal.End.{End}
 use Rattle.strings.specs.declared.literal.End.TheVariants as end
@@ -38,7 +37,6 @@ use Rattle.strings.specs.declared.literal.Step.TheVariants.{Go, Stop}
 use Rattle.strings.proofs.PieceFacts.{Taken}
 use Rattle.strings.proofs.Decodes.{from, Gives, went, from_stop, step_gives, step_less}
 use Rattle.strings.proofs.Parts.{spells_ge}
-use Rattle.base.proofs.Storings.{Storing, storing_first, storing_end, storing_room, storing_more}
 
 -- where a quote stands, the text goes on
 pub quote_in : (s : List ℕ) (e : ℕ) → byte s e ≡ 0x22 → e < length s
@@ -86,19 +84,18 @@ measuring_first m s t h e = record { inside = h; few_bytes = lit≤ tt; few_repo
 
 -- after a part, which ends at e and stands for `size` bytes
 module _ {m : Mode} {s : List ℕ} {i count reports : ℕ} {state : State} (u : Measuring m s i count reports state) {e size : ℕ}
-    (part : Spells s i e size × (is_between state ≡ false → size ≡ 0)) where
+    (part : Spells s i e size) (none : is_between state ≡ false → size ≡ 0) where
   parted : Measuring m s e (count + size) reports state
   parted =
-      let p : Spells s i e size = part.0 in
       record {
-        inside = p.inside;
-        few_bytes = omega (arith, u.few_bytes, p.later);
-        few_reports = omega (arith, u.few_reports, p.later);
+        inside = part.inside;
+        few_bytes = omega (arith, u.few_bytes, part.later);
+        few_reports = omega (arith, u.few_reports, part.later);
         is =
             u.is
-            ∙ ap (measured count reports state) (p.is m)
-            ∙ measured_prepend count reports state p.bytes [] (from m s e)
-            ∙ rw (p.count, fed_still state p.bytes p.whole (λ n. p.count ∙ part.1 n), add-zero reports);
+            ∙ ap (measured count reports state) (part.is m)
+            ∙ measured_prepend count reports state part.bytes [] (from m s e)
+            ∙ rw (part.count, fed_still state part.bytes part.whole (λ n. part.count ∙ none n), add-zero reports);
       }
 
   pub part_in : e ≤ length s
@@ -128,7 +125,7 @@ module _ {m : Mode} {s : List ℕ} {i count reports : ℕ} {state : State} (u : 
     gives = step_gives m s e is h part_in
 
     pub measuring_less : length s - (e + used) < length s - i
-    measuring_less = step_less m s e is h part_in i (spells_ge part.0)
+    measuring_less = step_less m s e is h part_in i (spells_ge part)
 
     pub measuring_go : (bs : List ℕ) (t : State) (b : Bool) (k : ℕ) → bs ≡ octets_of enc → t ≡ push_all state bs → b ≡ is_some reason → k ≡ bool_byte b
         → Measuring m s (e + used) (count + size + enc.len) (reports + k) t
@@ -153,47 +150,3 @@ module _ {m : Mode} {s : List ℕ} {i count reports : ℕ} {state : State} (u : 
 
     pub used_fits : length s < 2 ^ 64 → Fits w64 (e + used)
     used_fits l = omega (arith, gives.inside)
-
--- ---- `put_string`
-
--- at i, with the next byte to go to p. The literal takes `len` bytes of text, and its bytes go to places before `until`
-pub record Writing (m : Mode) (s : List ℕ) (len : ℕ) (out₀ : List ℕ) (place until : ℕ) (out : List ℕ) (i p : ℕ) : Type 0 where
-  pub inside : i ≤ length s
-  pub store : Storing (from m s 1).bytes out₀ place (from m s i).bytes out p
-  pub count : p + length (from m s i).bytes ≡ until
-  pub stop : (from m s i).stop ≡ len
-  pub closed : m ≡ Strict → (from m s i).ending ≡ end.Closed
-
-pub writing_first : (m : Mode) (s : List ℕ) (len size : ℕ) (out : List ℕ) (place : ℕ) → 0 < length s → place + size ≤ length out → Sized m s len size
-    → Writing m s len out place (place + size) out 1 place
-unfolding literal_of
-writing_first m s len size out place h r z =
-    record { inside = h; store = storing_first (omega (arith, z.count)); count = omega (arith, z.count); stop = z.stop; closed = z.closed }
-
-module _ {m : Mode} {s : List ℕ} {len : ℕ} {out₀ : List ℕ} {place until : ℕ} {out : List ℕ} {i p : ℕ} (u : Writing m s len out₀ place until out i p) where
-  -- a run, escapes of one letter or a step gives the next n bytes
-  module _ {bs : List ℕ} {ns : List Note} {n j : ℕ} (g : Gives m s i bs ns n j) where
-    bytes_are : (from m s i).bytes ≡ bs ++ (from m s j).bytes
-    bytes_are = ap (λ (d : Decoded). d.bytes) g.is
-
-    pub writing_room : p + n ≤ length out
-    writing_room = storing_room u.store bs (from m s j).bytes bytes_are g.count
-
-    pub writing_more : (o : List ℕ) → o ≡ sets out p bs → Writing m s len out₀ place until o j (p + n)
-    writing_more o q =
-        record {
-          inside = g.inside;
-          store = storing_more u.store bs (from m s j).bytes bytes_are g.count o q;
-          count = omega (arith, u.count, g.count, ap length bytes_are, length-append bs (from m s j).bytes);
-          stop = sym (ap (λ (d : Decoded). d.stop) g.is) ∙ u.stop;
-          closed = λ t. sym (ap (λ (d : Decoded). d.ending) g.is) ∙ u.closed t;
-        }
-
-  pub writing_stop : {q : Step} → q ≡ step_of m i (piece_of (drop i s)) → {x : End} {y : ℕ} → q ≡ Stop x y → out ≡ sets out₀ place (literal_of m s).bytes
-  unfolding literal_of
-  writing_stop is h = storing_end u.store (ap (λ (d : Decoded). d.bytes) (from_stop m s i is h))
-
--- where there are no escapes of one letter
-pub writing_none : {m : Mode} {s : List ℕ} {len : ℕ} {out₀ : List ℕ} {place until : ℕ} {out : List ℕ} (i p n : ℕ)
-    → Writing m s len out₀ place until out (i + 2 * n) (p + n) → n ≡ 0 → Writing m s len out₀ place until out i p
-writing_none i p n v z = rw (z, add-zero i, add-zero p) at v

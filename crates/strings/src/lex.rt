@@ -1,17 +1,22 @@
 // The token that a string literal is, and its decoded bytes. The opening quote is the first byte of the slice.
-ghost use Rattle.std.specs.Prelude.{◌≡◌, true, ◌+◌, ◌≤◌, ◌<◌, length};
+ghost use Rattle.std.specs.Prelude.{◌≡◌, Some, None, MatchOption, ◌+◌, ◌≤◌, ◌<◌, length};
+ghost use Rattle.base.specs.Choice.{pick};
+ghost use Rattle.utf8.specs.State.{is_between};
+ghost use Rattle.token.specs.declared.kind.TokenKind.TheVariants as K;
+ghost use Rattle.token.specs.declared.reason.Reason.TheVariants as R;
+ghost use Rattle.lexeme.specs.Lexeme.{extent, illegal_reported};
 ghost use Rattle.std.proofs.lemmas.List.Edits.{sets};
 ghost use Rattle.utf8.specs.Grammar.{Octets};
-ghost use Rattle.lexeme.specs.declared.Mode.TheVariants as M;
 ghost use Rattle.strings.specs.Decode.{letter_detail};
 ghost use Rattle.strings.specs.Literal.{literal_of, end_reason, end_detail, literal_end, end_notes, lex_string};
 ghost use Rattle.strings.specs.Helpers.{Sized};
 
-use crate::literal::{End, Step, measure_literal, ordinary_end, put_simple, step_at};
+use crate::literal::{End, Literal, Measure, Step, ordinary_end, put_simple, step_at};
 use lexeme::{Lexeme, Mode};
 use token::kind::TokenKind;
 use token::reason::Reason;
 use utf8::check::char_end;
+use utf8::state::State;
 
 // The reason that an ending gives a strict literal.
 #[tactic(auto, unfolding(crate::specs::Literal::end_reason))]
@@ -72,56 +77,45 @@ fn end_reports(end: End) -> usize
     }
 }
 
-// The literal read strictly: its ending's reason goes before that of its bytes.
-fn lex_strict(s: &[u8]) -> Lexeme
-    requires { (0 < length s.now) × Octets s.now }
-    ensures { result ≡ lex_string M.Strict s.now }
+// The reason that makes a literal Illegal whose bytes are not UTF-8.
+fn utf8_reason(state: State) -> Option<Reason>
+    ensures { result ≡ pick (is_between state) None (Some R.StringNotUtf8) }
 {
-    let m = measure_literal(s, Mode::Strict);
-    let end = m.end;
-    let stop = m.stop;
-    if let Some(reason) = end_reason(end) {
-        return Lexeme::illegal(reason, end_detail(end), end_of(s, end, stop));
+    if state.is_between() {
+        None
+    } else {
+        Some(Reason::StringNotUtf8)
     }
-    if !m.state.is_between() {
-        return Lexeme::illegal(Reason::StringNotUtf8, 0, stop);
-    }
-    Lexeme::extent(TokenKind::String, stop, 0, m.count, 0)
 }
 
-// The literal read tolerantly: an ending is reported.
-fn lex_tolerant(s: &[u8]) -> Lexeme
-    requires { (0 < length s.now) × Octets s.now }
-    ensures { result ≡ lex_string M.Tolerant s.now }
+// The token of what is measured: a String, or Illegal for its reason.
+fn token_for(s: &[u8], m: Measure, reason: Option<Reason>, reports: usize) -> Lexeme
+    ensures { MatchOption
+        reason
+        (result ≡ extent K.String m.stop 0 m.count reports)
+        (λ r. result ≡ illegal_reported r (end_detail m.end) (literal_end s.now m.end m.stop) reports) }
 {
-    let m = measure_literal(s, Mode::Tolerant);
-    let end = m.end;
-    let stop = m.stop;
-    let reports = m.reports + end_reports(end);
-    if m.state.is_between() {
-        return Lexeme::extent(TokenKind::String, stop, 0, m.count, reports);
+    match reason {
+        None => Lexeme::extent(TokenKind::String, m.stop, 0, m.count, reports),
+        Some(reason) => Lexeme::illegal_reported(
+            reason,
+            end_detail(m.end),
+            end_of(s, m.end, m.stop),
+            reports,
+        ),
     }
-    Lexeme::illegal_reported(Reason::StringNotUtf8, 0, stop, reports)
 }
 
-// The string literal at the front of a slice.
+// The string literal at the front of a slice. A strict literal's ending goes before its bytes; a tolerant one's is reported.
 pub fn lex_string(s: &[u8], mode: Mode) -> Lexeme
     requires { (0 < length s.now) × Octets s.now }
     ensures { result ≡ lex_string mode s.now }
 {
+    let m = Literal { text: s }.measure(mode);
+    let bytes = utf8_reason(m.state);
     match mode {
-        Mode::Strict => lex_strict(s),
-        Mode::Tolerant => lex_tolerant(s),
-    }
-}
-
-// Whether the reading is strict.
-fn is_strict(mode: Mode) -> bool
-    ensures { result ≡ true → mode ≡ M.Strict }
-{
-    match mode {
-        Mode::Strict => true,
-        Mode::Tolerant => false,
+        Mode::Strict => token_for(s, m, end_reason(m.end).or(bytes), 0),
+        Mode::Tolerant => token_for(s, m, bytes, m.reports + end_reports(m.end)),
     }
 }
 
@@ -131,7 +125,7 @@ pub fn put_string(s: &[u8], mode: Mode, len: usize, size: usize, out: &mut [u8],
     requires { (0 < length s.now) × (place + size ≤ length out.old) × Sized mode s.now len size }
     ensures { out.new ≡ sets out.old place (literal_of mode s.now).bytes }
 {
-    let strict = is_strict(mode);
+    let strict = mode == Mode::Strict;
     let until = place + size;
     let mut i = 1;
     let mut p = place;
@@ -149,7 +143,7 @@ pub fn put_string(s: &[u8], mode: Mode, len: usize, size: usize, out: &mut [u8],
         if base::peek(s, e) == b'"' {
             return;
         }
-        let escapes = put_simple(s, e, out, p);
+        let escapes = put_simple(&s[e..], &mut out[p..]);
         if escapes != 0 {
             p += escapes;
             i = e + 2 * escapes;

@@ -5,7 +5,7 @@ ghost use Rattle.std.proofs.lemmas.List.Edits.{sets};
 ghost use Rattle.base.specs.Choice.{pick};
 ghost use Rattle.base.specs.Bytes.{byte};
 ghost use Rattle.base.specs.Runs.{reach};
-ghost use Rattle.utf8.specs.Grammar.{Octets};
+ghost use Rattle.utf8.specs.Grammar.{valid_to};
 ghost use Rattle.utf8.specs.State.{is_between};
 ghost use Rattle.strings.specs.Piece.{piece_of};
 ghost use Rattle.strings.specs.Plain.{is_ordinary, in_ordinary, simple_at, simple_bytes, Spells};
@@ -130,9 +130,12 @@ fn is_ordinary(b: u8) -> bool
 }
 
 // The end of the run of bytes from i on that stand for themselves. Where escapes follow each other there are none, and the first byte says it.
+#[tactic(auto, using(base::proofs::Reaches::reach_le, base::proofs::Reaches::reach_ge))]
 pub fn ordinary_end(s: &[u8], i: usize) -> usize
     requires { i ≤ length s.now }
-    ensures { result ≡ reach in_ordinary s.now i }
+    ensures is { result ≡ reach in_ordinary s.now i }
+    ensures later { i ≤ result }
+    ensures inside { result ≤ length s.now }
 {
     if !is_ordinary(base::peek(s, i)) {
         return i;
@@ -140,119 +143,121 @@ pub fn ordinary_end(s: &[u8], i: usize) -> usize
     reach_bytes(Ordinary, s, past_windows(Ordinary, s, i))
 }
 
-// The byte that the escape of one letter at i stands for.
+// The byte that the two bytes stand for, where they are an escape of one letter.
 #[tactic(auto, unfolding(crate::specs::Plain::simple_at))]
-fn simple_at(s: &[u8], i: usize) -> Option<u8>
-    requires { i < length s.now }
-    ensures { result ≡ simple_at (byte s.now i) (byte s.now (i + 1)) }
+fn simple_at(pair: &[u8; 2]) -> Option<u8>
+    ensures { result ≡ simple_at (byte pair.now 0) (byte pair.now 1) }
 {
-    if s[i] != b'\\' {
-        return None;
+    match pair {
+        [b'\\', e] => simple(*e),
+        _ => None,
     }
-    simple(base::peek(s, i + 1))
 }
 
-// How many escapes of one letter follow each other from i on.
-fn simple_count(s: &[u8], i: usize) -> usize
-    requires { i ≤ length s.now }
-    ensures { result ≡ length (simple_bytes (drop i s.now)) }
+// How many escapes of one letter follow each other at the front.
+fn simple_count(t: &[u8]) -> usize
+    ensures { result ≡ length (simple_bytes t.now) }
 {
-    let mut e = i;
-    let mut n = 0;
-    while e < s.len() {
-        let Some(_) = simple_at(s, e) else {
-            return n;
+    let (pairs, _) = t.as_chunks::<2>();
+    pairs
+        .iter()
+        .take_while(|pair| simple_at(pair).is_some())
+        .count()
+}
+
+// Stores the bytes that those escapes stand for, and counts them.
+pub fn put_simple(t: &[u8], out: &mut [u8]) -> usize
+    requires { length (simple_bytes t.now) ≤ length out.old }
+    ensures count { result ≡ length (simple_bytes t.now) }
+    ensures stored { out.new ≡ sets out.old 0 (simple_bytes t.now) }
+{
+    let (pairs, _) = t.as_chunks::<2>();
+    for (k, pair) in pairs.iter().enumerate() {
+        let Some(b) = simple_at(pair) else {
+            return k;
         };
-        n += 1;
-        e += 2;
+        out[k] = b;
     }
-    n
+    pairs.len()
 }
 
-// Stores the bytes that those escapes stand for from `place` on, and counts them.
-pub fn put_simple(s: &[u8], i: usize, out: &mut [u8], place: usize) -> usize
-    requires { (i ≤ length s.now) × (place + length (simple_bytes (drop i s.now)) ≤ length out.old) }
-    ensures { (result ≡ length (simple_bytes (drop i s.now))) × (out.new ≡ sets out.old place (simple_bytes (drop i s.now))) }
-{
-    let mut e = i;
-    let mut n = 0;
-    while e < s.len() {
-        let Some(b) = simple_at(s, e) else {
-            return n;
-        };
-        out[place + n] = b;
-        n += 1;
-        e += 2;
-    }
-    n
+// A string literal at the front of a well-formed text, whose first byte is the opening quote.
+#[derive(Clone, Copy)]
+pub struct Literal<'a> {
+    pub text: &'a [u8],
+    ghost some: { 0 < length text.now },
+    ghost formed: { valid_to text.now ≡ length text.now },
 }
 
-// The part from i on of characters that stand for themselves and escapes of one letter. These leave no character begun; where one has, in
-// what is decoded or in the text, the part is empty.
-fn part_at(s: &[u8], i: usize, state: State) -> Part
-    requires { (i ≤ length s.now) × Octets s.now }
-    ensures { Spells s.now i result.end result.count × (is_between state ≡ false → result.count ≡ 0) }
-{
-    let mut end = i;
-    let mut count = 0;
-    if !state.is_between() | is_inside(s, i) {
-        return Part { end, count };
-    }
-    loop {
-        let e = ordinary_end(s, end);
-        let n = simple_count(s, e);
-        count += e - end + n;
-        end = e + 2 * n;
-        if n == 0 {
+impl<'a> Literal<'a> {
+    // The part from i on of characters that stand for themselves and escapes of one letter. These leave no character begun; where one has, in
+    // what is decoded or in the text, the part is empty.
+    fn part_at(&self, i: usize, state: State) -> Part
+        requires { i ≤ length self.now.text.now }
+        ensures spelled { Spells self.now.text.now i result.end result.count }
+        ensures none { is_between state ≡ false → result.count ≡ 0 }
+    {
+        let s = self.text;
+        let mut end = i;
+        let mut count = 0;
+        if !state.is_between() | is_inside(s, i) {
             return Part { end, count };
         }
-    }
-}
-
-// Measures the literal whose opening quote is the first byte.
-pub fn measure_literal(s: &[u8], mode: Mode) -> Measure
-    requires { (0 < length s.now) × Octets s.now }
-    ensures { result ≡ measured 0 0 State.Between (literal_of mode s.now) }
-{
-    let mut i = 1;
-    let mut count = 0;
-    let mut reports = 0;
-    let mut state = State::start();
-    loop {
-        let part = part_at(s, i, state);
-        let e = part.end;
-        count += part.count;
-        // Most literals end here, and need no step.
-        if base::peek(s, e) == b'"' {
-            let stop = e + 1;
-            return Measure {
-                count,
-                reports,
-                stop,
-                end: End::Closed,
-                state,
-            };
-        }
-        let st = step_at(s, e, mode);
-        match st {
-            Step::Go {
-                encoded,
-                used,
-                reason,
-            } => {
-                state = state.push_all(encoded.as_slice());
-                count += encoded.len;
-                reports += usize::from(reason.is_some());
-                i = e + used;
+        loop {
+            let e = ordinary_end(s, end);
+            let n = simple_count(&s[e..]);
+            count += e - end + n;
+            end = e + 2 * n;
+            if n == 0 {
+                return Part { end, count };
             }
-            Step::Stop { end, stop } => {
+        }
+    }
+
+    pub fn measure(&self, mode: Mode) -> Measure
+        ensures { result ≡ measured 0 0 State.Between (literal_of mode self.now.text.now) }
+    {
+        let s = self.text;
+        let mut i = 1;
+        let mut count = 0;
+        let mut reports = 0;
+        let mut state = State::start();
+        loop {
+            let part = self.part_at(i, state);
+            let e = part.end;
+            count += part.count;
+            // Most literals end here, and need no step.
+            if base::peek(s, e) == b'"' {
+                let stop = e + 1;
                 return Measure {
                     count,
                     reports,
                     stop,
-                    end,
+                    end: End::Closed,
                     state,
                 };
+            }
+            let st = step_at(s, e, mode);
+            match st {
+                Step::Go {
+                    encoded,
+                    used,
+                    reason,
+                } => {
+                    state = state.push_all(encoded.as_slice());
+                    count += encoded.len;
+                    reports += usize::from(reason.is_some());
+                    i = e + used;
+                }
+                Step::Stop { end, stop } => {
+                    return Measure {
+                        count,
+                        reports,
+                        stop,
+                        end,
+                        state,
+                    };
+                }
             }
         }
     }

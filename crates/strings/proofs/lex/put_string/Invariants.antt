@@ -2,7 +2,7 @@
 -- then the closing quote, escapes of one letter, or a step. What is stored so far is named stage by stage. Assumes nothing.
 use Prim.Native.Nat.{◌-◌}
 use lib.ListN.{length}
-use Rattle.strings.proofs.Turns.{Writing}
+use Rattle.strings.proofs.Writings.{Writing}
 use Rattle.strings.proofs.lex.put_string.Given as goal
 
 abbrev pub invariant-loop-i : goal.invariant-loop-i

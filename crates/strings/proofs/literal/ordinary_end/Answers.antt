@@ -7,9 +7,9 @@ use Rattle.base.proofs.Tests.{in_text}
 use Rattle.strings.specs.Plain.{is_ordinary, in_ordinary}
 use Rattle.strings.proofs.literal.ordinary_end.Goals as goal
 
-pub returns-then-not-is_ordinary : goal.returns-then-not-is_ordinary
+pub returns-then-not-is_ordinary-clause-is : goal.returns-then-not-is_ordinary-clause-is
 unfolding is_ordinary
-returns-then-not-is_ordinary c =
+returns-then-not-is_ordinary-clause-is c =
     let a = c.args in
     let e : is_ordinary (byte a.s.now a.i) ≡ false = rw (← c.peek.ensures, ← c.is_ordinary.ensures) c.if-not-is_ordinary.true in
     sym (reach_stop in_ordinary _ _ (in_text (λ b. not (is_ordinary b)) _ _ refl (ap not e)) e)

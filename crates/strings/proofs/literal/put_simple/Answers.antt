@@ -1,25 +1,26 @@
--- `put_simple` stores what the escapes that are left stand for after what is stored already. Assumes nothing.
-use Rattle.strings.proofs.Parts.{counting_end, counting_stop, counting_fits, counting_on, putting_first, putting_end}
-use Rattle.strings.proofs.Parts.{putting_stop, putting_room, putting_more}
+-- `put_simple` stores what the pairs that are left stand for after what is stored already. Assumes nothing.
+use native.Mathlib.Omega.{arith}
+use Rattle.base.proofs.Storings.{storing_first}
+use Rattle.strings.proofs.Pairs.{pairs_are, putting_stop, counting_stop, putting_room, putting_more, putting_end, counting_end}
 use Rattle.strings.proofs.literal.put_simple.Goals as goal
 
-pub loop-e-init : goal.loop-e-init
-loop-e-init c = search putting_first
+pub loop-k-init : goal.loop-k-init
+loop-k-init c = storing_first (rw (c.as_chunks.ensures.front, ← pairs_are c.args.t.now) (omega arith))
 
-pub returns-in_default : goal.returns-in_default
-returns-in_default c = search (counting_stop, putting_stop)
+pub loop-k-preserved : goal.loop-k-preserved
+loop-k-preserved c = search putting_more
 
-pub bounds-out-place : goal.bounds-out-place
-bounds-out-place c = search putting_room
+pub bounds-out-k : goal.bounds-out-k
+bounds-out-k c = search putting_room
 
-pub overflow_add-n : goal.overflow_add-n
-overflow_add-n c = search counting_fits
+pub returns-in_default-clause-count : goal.returns-in_default-clause-count
+returns-in_default-clause-count c = rw (pairs_are c.args.t.now, ← c.as_chunks.ensures.front) (search counting_stop)
 
-pub overflow_add-e : goal.overflow_add-e
-overflow_add-e c = search counting_on
+pub returns-in_default-clause-stored : goal.returns-in_default-clause-stored
+returns-in_default-clause-stored c = rw (pairs_are c.args.t.now, ← c.as_chunks.ensures.front) (search putting_stop)
 
-pub loop-e-preserved : goal.loop-e-preserved
-loop-e-preserved c = search putting_more
+pub returns-clause-count : goal.returns-clause-count
+returns-clause-count c = rw (pairs_are c.args.t.now, ← c.as_chunks.ensures.front) (search counting_end)
 
-pub returns : goal.returns
-returns c = search (counting_end, putting_end)
+pub returns-clause-stored : goal.returns-clause-stored
+returns-clause-stored c = rw (pairs_are c.args.t.now, ← c.as_chunks.ensures.front) (search putting_end)

@@ -1,21 +1,18 @@
--- `simple_count` counts the escapes: those passed and those left make the whole. Assumes nothing.
-use Rattle.strings.proofs.Parts.{counting_first, counting_end, counting_stop, counting_more, counting_fits, counting_on}
+-- `simple_count` counts the pairs at the front that are escapes. Assumes nothing.
+use mathlib.Core.Path.{refl, ◌∙◌}
+use Rattle.std.proofs.Common.{rules, tests, is_some}
+use Rattle.std.proofs.lemmas.Iterator.{YieldsList-from_slice}
+use Rattle.std.proofs.lemmas.Iterator.Consumers.{count_from_yields_List}
+use Rattle.std.proofs.lemmas.Iterator.Search.{YieldsList-from_take_while}
+use Rattle.std.proofs.lemmas.List.Folds.{length-prefix_len}
+use Rattle.strings.proofs.Pairs.{pair_at, pairs_are, pairs_count}
 use Rattle.strings.proofs.literal.simple_count.Goals as goal
 
-pub loop-e-init : goal.loop-e-init
-loop-e-init c = search counting_first
-
-pub returns-in_default : goal.returns-in_default
-returns-in_default c = search counting_stop
-
-pub overflow_add-n : goal.overflow_add-n
-overflow_add-n c = search counting_fits
-
-pub overflow_add-e : goal.overflow_add-e
-overflow_add-e c = search counting_on
-
-pub loop-e-preserved : goal.loop-e-preserved
-loop-e-preserved c = search counting_more
-
 pub returns : goal.returns
-returns c = search counting_end
+returns c =
+    let pairs = c.as_chunks.result.0.now in
+    let count = count_from_yields_List c.take_while.result _ c.count.ensures.ran
+    (YieldsList-from_take_while _ (λ p. is_some (pair_at p)) (YieldsList-from_slice pairs cc) c.take_while.ensures.closure c.take_while.ensures.done
+    (λ x b q k. search (rules, tests)))
+    ∙ length-prefix_len (λ p. is_some (pair_at p)) pairs in
+    count ∙ pairs_count pairs ∙ rw (c.as_chunks.ensures.front, ← pairs_are c.args.t.now) refl

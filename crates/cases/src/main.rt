@@ -8,7 +8,7 @@ ghost use Rattle.std.specs.Prelude.{◌*◌, ◌≤◌, length};
 ghost use Rattle.token.specs.Layout.{record_width, report_width};
 
 use base::answer::Numbered;
-use lexer::reading::Reading;
+use lexer::reading::{Reading, Settings};
 use notation::parse;
 use notation::stdio::{print, print_number, print_row, read};
 use reading::counts::Counts;
@@ -50,8 +50,7 @@ struct Room {
 // How a text is read, what is asked of it, and how long the buffers are.
 #[derive(Clone, Copy)]
 struct How {
-    mode: Reading,
-    limit: usize,
+    settings: Settings,
     asked: Asked,
     room: Room,
 }
@@ -60,8 +59,10 @@ impl How {
     // How a case is read that asks for nothing else.
     fn plain() -> How {
         How {
-            mode: Reading::Strict,
-            limit: 0,
+            settings: Settings {
+                mode: Reading::Strict,
+                limit: 0,
+            },
             asked: Asked::Whole,
             room: Room {
                 tokens: TOKENS,
@@ -76,11 +77,17 @@ impl How {
         match line {
             [b'c', ..] => How::plain(),
             [b'm', ..] => How {
-                mode: mode_in(line),
+                settings: Settings {
+                    mode: mode_in(line),
+                    ..self.settings
+                },
                 ..self
             },
             [b'l', ..] => How {
-                limit: parse::digits(line),
+                settings: Settings {
+                    limit: parse::digits(line),
+                    ..self.settings
+                },
                 ..self
             },
             [b'f', ..] => How {
@@ -176,8 +183,7 @@ fn print_date(seconds: i64, nanos: usize) {
 
 // Prints what is answered of a text, to which buffers of the lengths asked for are lent.
 fn answer(text: &[u8], how: How) {
-    let mode = how.mode;
-    let limit = how.limit;
+    let settings = how.settings;
     let mut tokens = [0i64; TOKENS];
     let mut strings = [0u8; STRINGS];
     let mut reports = [0i64; REPORTS];
@@ -185,12 +191,12 @@ fn answer(text: &[u8], how: How) {
     let strings = &mut strings[..how.room.strings];
     let reports = &mut reports[..how.room.reports];
     match how.asked {
-        Asked::Whole => match read_text(text, mode, limit, tokens, strings, reports) {
+        Asked::Whole => match read_text(text, settings, tokens, strings, reports) {
             Ok(counts) => print_counts(tokens, strings, reports, counts),
             Err(refusal) => print_refusal(refusal),
         },
         Asked::OneToken(place) => {
-            match read_token(text, place, mode, limit, tokens, strings, reports) {
+            match read_token(text, place, settings, tokens, strings, reports) {
                 Ok(one) => {
                     let counts = Counts {
                         tokens: 1,

@@ -8,7 +8,8 @@ ghost use Rattle.lexer.specs.Helpers.{mark_lexeme, Ending, Placing};
 ghost use Rattle.lexer.specs.Token.{start_at, found_from, found_at, placed, token_of, next_token, string_size};
 
 use crate::class::mark;
-use crate::reading::{Reading, lex_in};
+use crate::lex::lex_in;
+use crate::reading::Settings;
 use base::peek;
 use base::runs::reach_run;
 use lexeme::Lexeme;
@@ -58,16 +59,16 @@ fn mark_lexeme(kind: TokenKind) -> Lexeme
 }
 
 // The token after an offset, relative to its start. Most tokens are marks, which need no lexer.
-pub fn next_lexeme(text: &[u8], at: usize, mode: Reading, limit: usize) -> Found
+pub fn next_lexeme(text: &[u8], at: usize, how: Settings) -> Found
     requires { (at ≤ length text.now) × Octets text.now }
-    ensures { result ≡ found_at mode limit text.now at }
+    ensures { result ≡ found_at how.mode how.limit text.now at }
 {
     let start = skip_spaces(text, at);
     if let Some(kind) = mark(peek(text, start)) {
         let lexeme = mark_lexeme(kind);
         return Found { start, lexeme };
     }
-    let lexeme = lex_in(&text[start..], mode, limit);
+    let lexeme = lex_in(&text[start..], how);
     Found { start, lexeme }
 }
 
@@ -151,30 +152,30 @@ fn placed(start: Place, end: Place, x: Lexeme) -> Token
 }
 
 // The token that starts at a place, after the blanks.
-fn token_from(text: &[u8], start: Place, mode: Reading, limit: usize) -> Token
+fn token_from(text: &[u8], start: Place, how: Settings) -> Token
     requires { Walkable text.now start start.offset × Octets text.now }
-    ensures { result ≡ token_of text.now (found_from mode limit text.now start.offset) }
+    ensures { result ≡ token_of text.now (found_from how.mode how.limit text.now start.offset) }
 {
     let first = start.offset;
-    let x = lex_in(&text[first..], mode, limit);
+    let x = lex_in(&text[first..], how);
     let kind = x.kind;
     let end = end_place(text, start, kind, x.len);
     placed(start, end, x)
 }
 
 // The token after a place of the text, with its places.
-pub fn next_token(text: &[u8], place: Place, mode: Reading, limit: usize) -> Token
+pub fn next_token(text: &[u8], place: Place, how: Settings) -> Token
     requires { Walkable text.now place place.offset × Octets text.now }
-    ensures { result ≡ next_token mode limit text.now place.offset }
+    ensures { result ≡ next_token how.mode how.limit text.now place.offset }
 {
-    token_from(text, past_blanks(text, place), mode, limit)
+    token_from(text, past_blanks(text, place), how)
 }
 
 // The same, for the loop that reads all tokens: most are marks, which need no lexer and no search for newlines. Called from that loop alone, it
 // becomes a part of it, and the token stays in registers.
-pub fn each_token(text: &[u8], place: Place, mode: Reading, limit: usize) -> Token
+pub fn each_token(text: &[u8], place: Place, how: Settings) -> Token
     requires { Walkable text.now place place.offset × Octets text.now }
-    ensures { result ≡ next_token mode limit text.now place.offset }
+    ensures { result ≡ next_token how.mode how.limit text.now place.offset }
 {
     let start = past_blanks(text, place);
     let first = start.offset;
@@ -182,7 +183,7 @@ pub fn each_token(text: &[u8], place: Place, mode: Reading, limit: usize) -> Tok
     if let Some(kind) = mark(b) {
         return placed(start, start.step(b), mark_lexeme(kind));
     }
-    token_from(text, start, mode, limit)
+    token_from(text, start, how)
 }
 
 // How many bytes a token lays into the string buffer.

@@ -8,7 +8,7 @@ ghost use Rattle.lexeme.specs.Helpers.{notes_numbers};
 ghost use Rattle.lexer.specs.Reading.{string_in, notes_in};
 ghost use Rattle.lexer.specs.Helpers.{StringFront, ReportRoom};
 
-use crate::reading::Reading;
+use crate::reading::{Reading, Settings};
 use base::peek;
 use lexeme::{Mode, put_report};
 use scan::bytes::bytes_reason;
@@ -40,16 +40,9 @@ fn put_at_start(text: &[u8], start: Place, reason: usize, out: &mut [i64], at: u
 
 // Writes the reports of the token that starts at a place of the text, of which there are some: an open block comment's, an open bytes literal's,
 // an open triple-quoted string's, or those of a string.
-pub fn put_reports(
-    text: &[u8],
-    start: Place,
-    mode: Reading,
-    limit: usize,
-    out: &mut [i64],
-    at: usize,
-)
-    requires { ReportRoom mode limit text.now start (length out.old) at }
-    ensures { out.new ≡ sets out.old at (notes_numbers text.now start.offset (notes_in mode limit (drop start.offset text.now))) }
+pub fn put_reports(text: &[u8], start: Place, how: Settings, out: &mut [i64], at: usize)
+    requires { ReportRoom how.mode how.limit text.now start (length out.old) at }
+    ensures { out.new ≡ sets out.old at (notes_numbers text.now start.offset (notes_in how.mode how.limit (drop start.offset text.now))) }
 {
     let first = start.offset;
     let s = &text[first..];
@@ -59,7 +52,7 @@ pub fn put_reports(
         return;
     }
     if a == b'b' {
-        let reason = bytes_reason(s, limit);
+        let reason = bytes_reason(s, how.limit);
         put_at_start(text, start, reason, out, at);
         return;
     }
@@ -67,5 +60,5 @@ pub fn put_reports(
         put_at_start(text, start, reason::OPEN_TRIPLE_STRING, out, at);
         return;
     }
-    put_string_notes(text, start, Mode::from(mode), out, at);
+    put_string_notes(text, start, Mode::from(how.mode), out, at);
 }

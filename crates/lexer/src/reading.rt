@@ -1,16 +1,21 @@
-// How a text is read: the mode of a reading, above the mode of the lexers.
+// How a text is read: the mode of a reading, above the mode of the lexers, and the bytes limit.
 ghost use Rattle.std.specs.Prelude.{◌≡◌};
-ghost use Rattle.lexer.specs.Helpers.{FromQuote};
-ghost use Rattle.lexer.specs.Reading.{mode_of, lexeme_in};
+ghost use Rattle.lexer.specs.Reading.{mode_of};
 
-use crate::lex::lex_one;
-use lexeme::{Lexeme, Mode};
+use lexeme::Mode;
 
 // A reading is strict or tolerant. A type of its own beside the lexers' `Mode`: with request #114 a reading has a third case, and the lexers keep two.
 #[derive(Clone, Copy, PartialEq, Eq, Debug)]
 pub enum Reading {
     Strict,
     Tolerant,
+}
+
+// What a reading is told beside the text: its mode, and the limit that a bytes literal must not exceed.
+#[derive(Clone, Copy, PartialEq, Eq, Debug)]
+pub struct Settings {
+    pub mode: Reading,
+    pub limit: usize,
 }
 
 // The mode of the lexers in a reading.
@@ -23,13 +28,4 @@ impl From<Reading> for Mode {
             Reading::Tolerant => Mode::Tolerant,
         }
     }
-}
-
-// The token at the front of a text that starts with no blank, in a reading.
-#[tactic(auto, unfolding(crate::specs::Reading::lexeme_in))]
-pub fn lex_in(s: &[u8], mode: Reading, limit: usize) -> Lexeme
-    requires { FromQuote s.now }
-    ensures { result ≡ lexeme_in mode limit s.now }
-{
-    lex_one(s, Mode::from(mode), limit)
 }

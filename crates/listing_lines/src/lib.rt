@@ -3,7 +3,7 @@
 
 ghost use Rattle.std.specs.Prelude.{◌≡◌, ◌+◌, ◌*◌, ◌≤◌, length, drop};
 ghost use Rattle.std.proofs.lemmas.List.Edits.{sets};
-ghost use Rattle.limits.specs.Limits.{max_message_size};
+ghost use Rattle.limits.specs.Limits.{max_message_size, max_bytes_literal_length};
 ghost use Rattle.token.specs.Layout.{record_width};
 ghost use Rattle.token.specs.Helpers.{RecordFits};
 ghost use Rattle.utf8.specs.Grammar.{Octets};
@@ -14,7 +14,7 @@ ghost use Rattle.listing_lines.specs.Rows.{line_at, row_lines};
 
 use base::answer::Numbered;
 use lexer::next::{Token, next_token};
-use lexer::reading::Reading;
+use lexer::reading::{Reading, Settings};
 use limits::default_bytes_limit;
 use notation::numbers::{number_size, separator_before, write_number};
 use reading::judge::judge;
@@ -73,16 +73,27 @@ fn put_line(row: &[i64; 7], out: &mut [u8], at: usize) -> usize
     end
 }
 
+// A listed text is read strictly, with the default limit.
+fn strictly() -> Settings
+    ensures mode { result.mode ≡ Reading.Strict }
+    ensures limit { result.limit ≡ max_bytes_literal_length }
+{
+    Settings {
+        mode: Reading::Strict,
+        limit: default_bytes_limit(),
+    }
+}
+
 // How many bytes the lines of a text's tokens have. It writes nothing, so that the out buffer is measured before the text is read.
 fn lines_size(text: &[u8]) -> usize
     requires { (length text.now ≤ max_message_size) × Octets text.now }
     ensures { result ≡ length (token_lines text.now) }
 {
-    let limit = default_bytes_limit();
+    let how = strictly();
     let mut place = Place::first();
     let mut size = 0;
-    loop {
-        let t = next_token(text, place, Reading::Strict, limit);
+    'tokens: loop {
+        let t = next_token(text, place, how);
         size += line_size(&token_numbers(t));
         if t.kind.is_eof() {
             return size;
@@ -144,8 +155,7 @@ pub fn list(
     if out.len() < size {
         return Err(OutShort);
     }
-    let limit = default_bytes_limit();
-    match read_text(text, Reading::Strict, limit, tokens, strings, reports) {
+    match read_text(text, strictly(), tokens, strings, reports) {
         Ok(counts) => {
             put_lines(tokens, counts.tokens, out);
             Ok(size)

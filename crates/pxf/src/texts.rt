@@ -3,7 +3,7 @@ ghost use Rattle.std.specs.Prelude.{◌≡◌};
 ghost use Rattle.pxf.specs.Texts.{reading_of, TextRead, TokenRead, PlaceGiven};
 
 use crate::values;
-use lexer::reading::Reading;
+use lexer::reading::{Reading, Settings};
 use token::place::Place;
 
 // The reading of a number: 1 is tolerant, any other strict.
@@ -29,8 +29,11 @@ pub extern "C" fn pxf_read_text(
 ) -> u8
     ensures { TextRead mode limit text.now tokens.old strings.old reports.old result tokens.new strings.new reports.new answer.new }
 {
-    let m = reading_of(mode);
-    let r = reading::text::read_text(text, m, limit as usize, tokens, strings, reports);
+    let how = Settings {
+        mode: reading_of(mode),
+        limit: limit as usize,
+    };
+    let r = reading::text::read_text(text, how, tokens, strings, reports);
     values::give(r, answer)
 }
 
@@ -50,13 +53,16 @@ pub extern "C" fn pxf_read_token(
 ) -> u8
     ensures { TokenRead offset line column mode limit text.now tokens.old strings.old reports.old result tokens.new strings.new reports.new answer.new }
 {
-    let m = reading_of(mode);
+    let how = Settings {
+        mode: reading_of(mode),
+        limit: limit as usize,
+    };
     let place = Place {
         offset: offset as usize,
         line: line as usize,
         column: column as usize,
     };
-    let r = reading::one::read_token(text, place, m, limit as usize, tokens, strings, reports);
+    let r = reading::one::read_token(text, place, how, tokens, strings, reports);
     values::give(r, answer)
 }
 

@@ -10,7 +10,7 @@ use crate::place::good_offset;
 use crate::put::put_token;
 use crate::refusal::Refusal;
 use lexer::next::{next_token, string_size};
-use lexer::reading::Reading;
+use lexer::reading::Settings;
 use token::place::{Place, walk};
 
 // How many string bytes and reports one token has, and the place at its end.
@@ -38,26 +38,25 @@ fn is_place(text: &[u8], place: Place) -> bool
 pub fn read_token(
     text: &[u8],
     place: Place,
-    mode: Reading,
-    limit: usize,
+    how: Settings,
     tokens: &mut [i64],
     strings: &mut [u8],
     reports: &mut [i64],
 ) -> Result<OneToken, Refusal>
-    ensures { ReadsToken mode limit text.now place tokens.old strings.old reports.old result tokens.new strings.new reports.new }
+    ensures { ReadsToken how.mode how.limit text.now place tokens.old strings.old reports.old result tokens.new strings.new reports.new }
 {
     judge(text)?;
     if !is_place(text, place) {
         return Err(Refusal::NoPlace);
     }
-    let t = next_token(text, place, mode, limit);
+    let t = next_token(text, place, how);
     let counts = Counts {
         tokens: 1,
         strings: string_size(t.kind, t.size),
         reports: t.reports,
     };
     counts.fit(tokens.len(), strings.len(), reports.len())?;
-    put_token(text, t, mode, limit, tokens, 0, strings, 0, reports, 0);
+    put_token(text, t, how, tokens, 0, strings, 0, reports, 0);
     Ok(OneToken {
         strings: counts.strings,
         reports: counts.reports,

@@ -9,7 +9,7 @@ ghost use Rattle.reading.specs.Passes.{RecordRoom, StringRoom, NotesRoom, TokenR
 
 use lexer::next::{Token, string_size};
 use lexer::put::{put_reports, put_string};
-use lexer::reading::Reading;
+use lexer::reading::{Reading, Settings};
 use token::layout::Record;
 use token::place::Place;
 
@@ -51,9 +51,9 @@ fn put_value(text: &[u8], t: Token, mode: Reading, out: &mut [u8], at: usize)
 
 // Writes the reports of a token of the text, likewise.
 #[inline(always)]
-fn put_notes(text: &[u8], t: Token, mode: Reading, limit: usize, out: &mut [i64], at: usize)
-    requires { NotesRoom mode limit text.now t (length out.old) at }
-    ensures { out.new ≡ sets out.old at (notes_numbers text.now t.start.offset (notes_in mode limit (drop t.start.offset text.now))) }
+fn put_notes(text: &[u8], t: Token, how: Settings, out: &mut [i64], at: usize)
+    requires { NotesRoom how.mode how.limit text.now t (length out.old) at }
+    ensures { out.new ≡ sets out.old at (notes_numbers text.now t.start.offset (notes_in how.mode how.limit (drop t.start.offset text.now))) }
 {
     if t.reports != 0 {
         // A place of its own, so that the token need not lie in memory.
@@ -62,7 +62,7 @@ fn put_notes(text: &[u8], t: Token, mode: Reading, limit: usize, out: &mut [i64]
             line: t.start.line,
             column: t.start.column,
         };
-        put_reports(text, start, mode, limit, out, at);
+        put_reports(text, start, how, out, at);
     }
 }
 
@@ -71,8 +71,7 @@ fn put_notes(text: &[u8], t: Token, mode: Reading, limit: usize, out: &mut [i64]
 pub fn put_token(
     text: &[u8],
     t: Token,
-    mode: Reading,
-    limit: usize,
+    how: Settings,
     tokens: &mut [i64],
     i: usize,
     strings: &mut [u8],
@@ -80,10 +79,10 @@ pub fn put_token(
     reports: &mut [i64],
     k: usize,
 )
-    requires { TokenRoom mode limit text.now t (length tokens.old) i (length strings.old) at (length reports.old) k }
-    ensures { TokenPut mode limit text.now t i at k tokens.old strings.old reports.old tokens.new strings.new reports.new }
+    requires { TokenRoom how.mode how.limit text.now t (length tokens.old) i (length strings.old) at (length reports.old) k }
+    ensures { TokenPut how.mode how.limit text.now t i at k tokens.old strings.old reports.old tokens.new strings.new reports.new }
 {
     put_record(t, at, tokens, i);
-    put_value(text, t, mode, strings, at);
-    put_notes(text, t, mode, limit, reports, k);
+    put_value(text, t, how.mode, strings, at);
+    put_notes(text, t, how, reports, k);
 }

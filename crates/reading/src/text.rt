@@ -12,19 +12,19 @@ use crate::put::put_token;
 use crate::refusal::Refusal;
 use lexeme::Mode;
 use lexer::next::{each_token, next_lexeme, string_size};
-use lexer::reading::Reading;
+use lexer::reading::{Reading, Settings};
 use token::layout::{RECORD_WIDTH, REPORT_WIDTH};
 use token::place::Place;
 
 // The first pass: it counts, and needs no places.
-fn measure(text: &[u8], mode: Reading, limit: usize) -> Counts
+fn measure(text: &[u8], how: Settings) -> Counts
     requires { (length text.now ≤ max_message_size) × Octets text.now }
-    ensures { result ≡ counts_of (whole_laid mode limit text.now) }
+    ensures { result ≡ counts_of (whole_laid how.mode how.limit text.now) }
 {
     let mut counts = Counts::default();
     let mut at = 0;
-    loop {
-        let found = next_lexeme(text, at, mode, limit);
+    'tokens: loop {
+        let found = next_lexeme(text, at, how);
         let x = found.lexeme;
         counts.tokens += 1;
         if x.kind.is_eof() {
@@ -39,33 +39,21 @@ fn measure(text: &[u8], mode: Reading, limit: usize) -> Counts
 // The second pass: each token's record, string and reports, one after the other. It counts too.
 fn write(
     text: &[u8],
-    mode: Reading,
-    limit: usize,
+    how: Settings,
     tokens: &mut [i64],
     strings: &mut [u8],
     reports: &mut [i64],
 ) -> Counts
-    requires { (length text.now ≤ max_message_size) × Room (whole_laid mode limit text.now) (length tokens.old) (length strings.old) (length reports.old) × Octets text.now }
-    ensures { (result ≡ counts_of (whole_laid mode limit text.now)) × AllStored (whole_laid mode limit text.now) tokens.old strings.old reports.old tokens.new strings.new reports.new }
+    requires { (length text.now ≤ max_message_size) × Room (whole_laid how.mode how.limit text.now) (length tokens.old) (length strings.old) (length reports.old) × Octets text.now }
+    ensures { (result ≡ counts_of (whole_laid how.mode how.limit text.now)) × AllStored (whole_laid how.mode how.limit text.now) tokens.old strings.old reports.old tokens.new strings.new reports.new }
 {
     let mut counts = Counts::default();
     let mut place = Place::first();
-    loop {
-        let t = each_token(text, place, mode, limit);
+    'tokens: loop {
+        let t = each_token(text, place, how);
         let i = counts.tokens * RECORD_WIDTH;
         let k = counts.reports * REPORT_WIDTH;
-        put_token(
-            text,
-            t,
-            mode,
-            limit,
-            tokens,
-            i,
-            strings,
-            counts.strings,
-            reports,
-            k,
-        );
+        put_token(text, t, how, tokens, i, strings, counts.strings, reports, k);
         counts.tokens += 1;
         if t.kind.is_eof() {
             return counts;
@@ -95,18 +83,17 @@ fn most(mode: Reading, len: usize) -> Counts
 // buffers suffice in any case.
 pub fn read_text(
     text: &[u8],
-    mode: Reading,
-    limit: usize,
+    how: Settings,
     tokens: &mut [i64],
     strings: &mut [u8],
     reports: &mut [i64],
 ) -> Result<Counts, Refusal>
-    ensures { ReadsText mode limit text.now tokens.old strings.old reports.old result tokens.new strings.new reports.new }
+    ensures { ReadsText how.mode how.limit text.now tokens.old strings.old reports.old result tokens.new strings.new reports.new }
 {
     judge(text)?;
     let (nt, ns, nr) = (tokens.len(), strings.len(), reports.len());
-    if most(mode, text.len()).fit(nt, ns, nr).is_err() {
-        measure(text, mode, limit).fit(nt, ns, nr)?;
+    if most(how.mode, text.len()).fit(nt, ns, nr).is_err() {
+        measure(text, how).fit(nt, ns, nr)?;
     }
-    Ok(write(text, mode, limit, tokens, strings, reports))
+    Ok(write(text, how, tokens, strings, reports))
 }

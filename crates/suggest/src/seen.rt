@@ -6,7 +6,8 @@ use base::class::is_digit;
 use base::peek;
 use base::runs::reach_run;
 use lexeme::Lexeme;
-use lexer::reading::{Reading, lex_in};
+use lexer::lex::lex_in;
+use lexer::reading::{Reading, Settings};
 use scan::run::Blank;
 
 // Whether a byte can begin a duration.
@@ -32,7 +33,11 @@ pub fn see(text: &[u8]) -> Option<i64>
     if !starts_number(peek(text, start)) {
         return None;
     }
-    let x = lex_in(&text[start..], Reading::Strict, 0);
+    let how = Settings {
+        mode: Reading::Strict,
+        limit: 0,
+    };
+    let x = lex_in(&text[start..], how);
     let end = start + x.len;
     see_by(x, reach_run(Blank, text, end) == text.len())
 }

@@ -13,25 +13,25 @@ use Rattle.listing_lines.proofs.lines_size.Goals.{After-line_size-size, After-ne
 use Rattle.listing_lines.proofs.lines_size.Goals as goal
 
 -- the token, with the default limit
-token_is : (c : After-next_token-t) → c.next_token-t.result ≡ next_token Strict max_bytes_literal_length c.args.text.now c.loop-t.place.offset
-token_is c = rw c.default_bytes_limit-limit.ensures at c.next_token-t.ensures
+token_is : (c : After-next_token-t) → c.next_token-t.result ≡ next_token Strict max_bytes_literal_length c.args.text.now c.tokens.place.offset
+token_is c = rw (c.strictly-how.ensures.mode, c.strictly-how.ensures.limit) at c.next_token-t.ensures
 
 -- the size of its line
 size_is : (c : After-line_size-size) → c.line_size-size.result ≡ length (line_text (line_numbers (record_of 0 c.next_token-t.result)))
 size_is c = rw c.token_numbers.ensures at c.line_size-size.ensures
 
-pub loop-t-init : goal.loop-t-init
-loop-t-init c = search measuring_start
+pub tokens-init : goal.tokens-init
+tokens-init c = search measuring_start
 
 pub token_numbers-requires : goal.token_numbers-requires
 token_numbers-requires c =
     let at = goal.at.token_numbers-requires c in
-    token_fits c.loop-t.invariant (token_is at.After-next_token-t) (λ k. (c.type_inv.text k).fits)
+    token_fits c.tokens.invariant (token_is at.After-next_token-t) (λ k. (c.type_inv.text k).fits)
 
 pub overflow_add-size : goal.overflow_add-size
 overflow_add-size c =
     let at = goal.at.overflow_add-size c in
-    let w = c.loop-t.invariant in
+    let w = c.tokens.invariant in
     record {
       fits = omega (
         arith,
@@ -46,16 +46,16 @@ overflow_add-size c =
 pub returns-then-is_eof : goal.returns-then-is_eof
 returns-then-is_eof c =
     let at = goal.at.returns-then-is_eof c in
-    measuring_end c.loop-t.invariant (token_is at.After-next_token-t) (size_is at.After-line_size-size)
+    measuring_end c.tokens.invariant (token_is at.After-next_token-t) (size_is at.After-line_size-size)
     (eqb-true _ _ (sym c.is_eof.ensures ∙ c.if-is_eof.true))
 
-pub loop-t-smaller : goal.loop-t-smaller
-loop-t-smaller c =
-    let at = goal.at.loop-t-smaller c in
-    measuring_less c.loop-t.invariant (token_is at.After-next_token-t) (eqb-false _ _ (sym c.is_eof.ensures ∙ c.if-is_eof.false))
+pub tokens-smaller : goal.tokens-smaller
+tokens-smaller c =
+    let at = goal.at.tokens-smaller c in
+    measuring_less c.tokens.invariant (token_is at.After-next_token-t) (eqb-false _ _ (sym c.is_eof.ensures ∙ c.if-is_eof.false))
 
-pub loop-t-preserved : goal.loop-t-preserved
-loop-t-preserved c =
-    let at = goal.at.loop-t-preserved c in
-    measuring_turn c.loop-t.invariant (token_is at.After-next_token-t) (eqb-false _ _ (sym c.is_eof.ensures ∙ c.if-is_eof.false))
+pub tokens-preserved : goal.tokens-preserved
+tokens-preserved c =
+    let at = goal.at.tokens-preserved c in
+    measuring_turn c.tokens.invariant (token_is at.After-next_token-t) (eqb-false _ _ (sym c.is_eof.ensures ∙ c.if-is_eof.false))
     (size_is at.After-line_size-size)

@@ -14,7 +14,7 @@ use Rattle.listing_lines.proofs.list.Goals as goal
 -- the reading, with the default limit
 reading : (c : After-read_text) → let a = c.args in let w = c.read_text in ReadsText Strict max_bytes_literal_length a.text.now a.tokens.now
     a.strings.now a.reports.now w.result w.new.tokens w.new.strings w.new.reports
-reading c = rw c.default_bytes_limit-limit.ensures at c.read_text.ensures
+reading c = rw (c.strictly.ensures.mode, c.strictly.ensures.limit) at c.read_text.ensures
 
 -- the lines fit the out buffer
 room : (c : After-read_text) → let a = c.args in lines_size a.text.now ≤ length a.out.now

@@ -26,15 +26,15 @@ pub placed-requires : goal.placed-requires
 placed-requires c =
     let at = goal.at.placed-requires c in
     let a = c.args in
-    rw c.mark_lexeme.ensures (mark_placing (start_in at.After-past_blanks-start) _ (is_mark at.In-Some) a.mode a.limit)
+    rw c.mark_lexeme.ensures (mark_placing (start_in at.After-past_blanks-start) _ (is_mark at.In-Some) a.how.mode a.how.limit)
 
 pub returns-in-Some : goal.returns-in-Some
 returns-in-Some c =
     let at = goal.at.returns-in-Some c in
     c.placed.ensures
     ∙ rw (c.step.ensures, c.mark_lexeme.ensures, c.peek-b.ensures)
-    (mark_token (start_in at.After-past_blanks-start) _ (is_mark at.In-Some) c.args.mode c.args.limit)
-    ∙ past_next c.requires.0 c.past_blanks-start.ensures c.args.mode c.args.limit
+    (mark_token (start_in at.After-past_blanks-start) _ (is_mark at.In-Some) c.args.how.mode c.args.how.limit)
+    ∙ past_next c.requires.0 c.past_blanks-start.ensures c.args.how.mode c.args.how.limit
 
 pub token_from-requires : goal.token_from-requires
 token_from-requires c =
@@ -42,4 +42,4 @@ token_from-requires c =
     ((start_in at.After-past_blanks-start), c.requires.1)
 
 pub returns : goal.returns
-returns c = c.token_from.ensures ∙ past_next c.requires.0 c.past_blanks-start.ensures c.args.mode c.args.limit
+returns c = c.token_from.ensures ∙ past_next c.requires.0 c.past_blanks-start.ensures c.args.how.mode c.args.how.limit

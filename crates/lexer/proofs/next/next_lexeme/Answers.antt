@@ -21,7 +21,7 @@ unfolding found_at
 returns-in-Some c =
     let a = c.args in
     let is_mark : mark_of (byte a.text.now c.skip_spaces-start.result) ≡ Some c.in-Some.kind = rw (← c.peek.ensures, ← c.mark.ensures) c.in-Some.is in
-    rw (← c.skip_spaces-start.ensures, mark_is a.text.now c.skip_spaces-start.result _ is_mark a.mode a.limit, ← c.mark_lexeme-lexeme.ensures)
+    rw (← c.skip_spaces-start.ensures, mark_is a.text.now c.skip_spaces-start.result _ is_mark a.how.mode a.how.limit, ← c.mark_lexeme-lexeme.ensures)
 
 pub slice_bounds-lex_in-count : goal.slice_bounds-lex_in-count
 slice_bounds-lex_in-count c =

@@ -7,4 +7,4 @@ pub token_from-requires : goal.token_from-requires
 token_from-requires c = search past_place
 
 pub returns : goal.returns
-returns c = c.token_from.ensures ∙ past_next c.requires.0 c.past_blanks.ensures c.args.mode c.args.limit
+returns c = c.token_from.ensures ∙ past_next c.requires.0 c.past_blanks.ensures c.args.how.mode c.args.how.limit

@@ -12,15 +12,15 @@ lex_in-x-requires c = search from_quote
 
 pub end_place-end-requires : goal.end_place-end-requires
 end_place-end-requires c =
-    let lexed : let a = c.args in c.lex_in-x.result ≡ lexeme_in a.mode a.limit (drop a.start.offset a.text.now) = rw rest_is at c.lex_in-x.ensures in
+    let lexed : let a = c.args in c.lex_in-x.result ≡ lexeme_in a.how.mode a.how.limit (drop a.start.offset a.text.now) = rw rest_is at c.lex_in-x.ensures in
     here_ending _ _ c.requires.0 lexed
 
 pub placed-requires : goal.placed-requires
 placed-requires c =
-    let lexed : let a = c.args in c.lex_in-x.result ≡ lexeme_in a.mode a.limit (drop a.start.offset a.text.now) = rw rest_is at c.lex_in-x.ensures in
+    let lexed : let a = c.args in c.lex_in-x.result ≡ lexeme_in a.how.mode a.how.limit (drop a.start.offset a.text.now) = rw rest_is at c.lex_in-x.ensures in
     here_placing _ _ c.requires.0 lexed
 
 pub returns : goal.returns
 returns c =
-    let lexed : let a = c.args in c.lex_in-x.result ≡ lexeme_in a.mode a.limit (drop a.start.offset a.text.now) = rw rest_is at c.lex_in-x.ensures in
+    let lexed : let a = c.args in c.lex_in-x.result ≡ lexeme_in a.how.mode a.how.limit (drop a.start.offset a.text.now) = rw rest_is at c.lex_in-x.ensures in
     c.placed.ensures ∙ here_token _ _ c.requires.0 lexed c.end_place-end.ensures

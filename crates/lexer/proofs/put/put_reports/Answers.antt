@@ -35,8 +35,8 @@ triple c =
     triple_report c.requires (quotes_are ∙ c.if-at_quotes.true)
 
 -- or its reports are those of a string of one line
-literal : (c : Else-at_quotes) → let rest : List ℕ = drop c.args.start.offset c.args.text.now in notes_in c.args.mode c.args.limit rest ≡
-    string_notes (mode_of c.args.mode) rest
+literal : (c : Else-at_quotes) → let rest : List ℕ = drop c.args.start.offset c.args.text.now in notes_in c.args.how.mode c.args.how.limit rest ≡
+    string_notes (mode_of c.args.how.mode) rest
 literal c =
     let rest : List ℕ = drop c.args.start.offset c.args.text.now in
     let first_is : byte rest 0 ≡ c.peek-a.result = sym (rw rest_is at c.peek-a.ensures) in

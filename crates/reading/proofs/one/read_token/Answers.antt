@@ -18,7 +18,7 @@ placed : (c : Else-not-is_place) → let a = c.args in is_place a.text.now a.pla
 placed c = sym c.is_place.ensures ∙ c.if-not-is_place.false
 
 -- what has passed all checks
-passed : (c : In_ok-fit) → let a = c.args in Passed a.mode a.limit a.text.now a.place a.tokens.now a.strings.now a.reports.now
+passed : (c : In_ok-fit) → let a = c.args in Passed a.how.mode a.how.limit a.text.now a.place a.tokens.now a.strings.now a.reports.now
     c.next_token-t.result c.string_size.result
 passed c =
     let j : judge_of c.args.text.now ≡ Ok tt = sym c.in_ok-judge.ensures in
@@ -47,7 +47,7 @@ next_token-t-requires c =
     let at = goal.at.next_token-t-requires c in
     let a = c.args in
     let j = fit at.Else-not-is_place in
-    (walkable a.mode a.limit a.text.now a.place j (placed at.Else-not-is_place), well_octets _ (fitting _ j).1)
+    (walkable a.how.mode a.how.limit a.text.now a.place j (placed at.Else-not-is_place), well_octets _ (fitting _ j).1)
 
 pub fit-requires : goal.fit-requires
 fit-requires c =

@@ -5,29 +5,29 @@ use borrow.Author.Tests.{eqb-true, eqb-false}
 use Rattle.reading.proofs.Turns.{measuring_start, measuring_few, measuring_less, measuring_turn, measuring_end}
 use Rattle.reading.proofs.text.measure.Goals as goal
 
-pub loop-mode-init : goal.loop-mode-init
-loop-mode-init c = let e = c.default-counts.ensures in rw (e.0, e.1.0, e.1.1) (measuring_start _ _ _)
+pub tokens-init : goal.tokens-init
+tokens-init c = let e = c.default-counts.ensures in rw (e.0, e.1.0, e.1.1) (measuring_start _ _ _)
 
 pub returns-then-is_eof : goal.returns-then-is_eof
-returns-then-is_eof c = measuring_end c.loop-mode.invariant c.next_lexeme-found.ensures (eqb-true _ _ (sym c.is_eof.ensures ∙ c.if-is_eof.true))
+returns-then-is_eof c = measuring_end c.tokens.invariant c.next_lexeme-found.ensures (eqb-true _ _ (sym c.is_eof.ensures ∙ c.if-is_eof.true))
 
-pub overflow_add-counts-in-loop-mode : goal.overflow_add-counts-in-loop-mode
-overflow_add-counts-in-loop-mode c = record {
+pub overflow_add-counts-in-tokens : goal.overflow_add-counts-in-tokens
+overflow_add-counts-in-tokens c = record {
   fits = omega
-      (arith, c.string_size.ensures, measuring_few c.loop-mode.invariant c.next_lexeme-found.ensures, c.requires.0);
+      (arith, c.string_size.ensures, measuring_few c.tokens.invariant c.next_lexeme-found.ensures, c.requires.0);
 }
 
-pub overflow_add-counts-in-loop-mode-2 : goal.overflow_add-counts-in-loop-mode-2
-overflow_add-counts-in-loop-mode-2 c = record { fits = omega (arith, measuring_few c.loop-mode.invariant c.next_lexeme-found.ensures, c.requires.0) }
+pub overflow_add-counts-in-tokens-2 : goal.overflow_add-counts-in-tokens-2
+overflow_add-counts-in-tokens-2 c = record { fits = omega (arith, measuring_few c.tokens.invariant c.next_lexeme-found.ensures, c.requires.0) }
 
 pub overflow_add-at : goal.overflow_add-at
-overflow_add-at c = record { fits = omega (arith, measuring_few c.loop-mode.invariant c.next_lexeme-found.ensures, c.requires.0) }
+overflow_add-at c = record { fits = omega (arith, measuring_few c.tokens.invariant c.next_lexeme-found.ensures, c.requires.0) }
 
-pub loop-mode-smaller : goal.loop-mode-smaller
-loop-mode-smaller c = measuring_less c.loop-mode.invariant c.next_lexeme-found.ensures
+pub tokens-smaller : goal.tokens-smaller
+tokens-smaller c = measuring_less c.tokens.invariant c.next_lexeme-found.ensures
     (eqb-false _ _ (sym c.is_eof.ensures ∙ c.if-is_eof.false))
 
-pub loop-mode-preserved : goal.loop-mode-preserved
-loop-mode-preserved c = rw c.string_size.ensures
-    (measuring_turn c.loop-mode.invariant c.next_lexeme-found.ensures
+pub tokens-preserved : goal.tokens-preserved
+tokens-preserved c = rw c.string_size.ensures
+    (measuring_turn c.tokens.invariant c.next_lexeme-found.ensures
     (eqb-false _ _ (sym c.is_eof.ensures ∙ c.if-is_eof.false)))

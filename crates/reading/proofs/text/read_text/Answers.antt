@@ -12,7 +12,7 @@ use Rattle.reading.proofs.text.read_text.Goals.{Joined-is_err, then-is_err+in_ok
 use Rattle.reading.proofs.text.read_text.Goals as goal
 
 -- the buffers hold the result: they pass with what is measured, or suffice in any case
-roomy : (c : Joined-is_err) → let a = c.args in Room (whole_laid a.mode a.limit a.text.now) (length a.tokens.now) (length a.strings.now)
+roomy : (c : Joined-is_err) → let a = c.args in Room (whole_laid a.how.mode a.how.limit a.text.now) (length a.tokens.now) (length a.strings.now)
     (length a.reports.now)
 roomy c =
     elim c.if-is_err.branch [

@@ -7,42 +7,42 @@ use Rattle.reading.proofs.Turns.{tokens_kept, strings_kept, reports_kept}
 use Rattle.reading.proofs.text.write.Goals as goal
 
 -- ---- a turn, once the token is stored and tested
-pub loop-mode-init : goal.loop-mode-init
-loop-mode-init c = let e = c.default-counts.ensures in rw (e.0, e.1.0, e.1.1) (search passing_start)
+pub tokens-init : goal.tokens-init
+tokens-init c = let e = c.default-counts.ensures in rw (e.0, e.1.0, e.1.1) (search passing_start)
 
 pub put_token-requires : goal.put_token-requires
-put_token-requires c = passing_room c.loop-mode.invariant c.each_token-t.ensures (λ k. (c.type_inv.text k).fits)
+put_token-requires c = passing_room c.tokens.invariant c.each_token-t.ensures (λ k. (c.type_inv.text k).fits)
 
 pub shape_of-tokens-then-is_eof : goal.shape_of-tokens-then-is_eof
-shape_of-tokens-then-is_eof c = tokens_kept c.loop-mode.invariant c.put_token.ensures
+shape_of-tokens-then-is_eof c = tokens_kept c.tokens.invariant c.put_token.ensures
 
 pub shape_of-strings-then-is_eof : goal.shape_of-strings-then-is_eof
-shape_of-strings-then-is_eof c = strings_kept c.loop-mode.invariant c.put_token.ensures
+shape_of-strings-then-is_eof c = strings_kept c.tokens.invariant c.put_token.ensures
 
 pub shape_of-reports-then-is_eof : goal.shape_of-reports-then-is_eof
-shape_of-reports-then-is_eof c = reports_kept c.loop-mode.invariant c.put_token.ensures
+shape_of-reports-then-is_eof c = reports_kept c.tokens.invariant c.put_token.ensures
 
 pub returns-then-is_eof : goal.returns-then-is_eof
-returns-then-is_eof c = passing_end c.loop-mode.invariant c.each_token-t.ensures c.put_token.ensures
+returns-then-is_eof c = passing_end c.tokens.invariant c.each_token-t.ensures c.put_token.ensures
     (eqb-true _ _ (sym c.is_eof.ensures ∙ c.if-is_eof.true))
 
-pub overflow_add-counts-in-loop-mode : goal.overflow_add-counts-in-loop-mode
-overflow_add-counts-in-loop-mode c = record {
+pub overflow_add-counts-in-tokens : goal.overflow_add-counts-in-tokens
+overflow_add-counts-in-tokens c = record {
   fits = omega (
     arith,
     c.string_size.ensures,
-    passing_few c.loop-mode.invariant c.each_token-t.ensures,
-    c.loop-mode.invariant.walkable.short,
+    passing_few c.tokens.invariant c.each_token-t.ensures,
+    c.tokens.invariant.walkable.short,
   );
 }
 
-pub overflow_add-counts-in-loop-mode-2 : goal.overflow_add-counts-in-loop-mode-2
-overflow_add-counts-in-loop-mode-2 c = record { fits = omega (arith, passing_few c.loop-mode.invariant c.each_token-t.ensures, c.loop-mode.invariant.walkable.short) }
+pub overflow_add-counts-in-tokens-2 : goal.overflow_add-counts-in-tokens-2
+overflow_add-counts-in-tokens-2 c = record { fits = omega (arith, passing_few c.tokens.invariant c.each_token-t.ensures, c.tokens.invariant.walkable.short) }
 
-pub loop-mode-smaller : goal.loop-mode-smaller
-loop-mode-smaller c = passing_less c.loop-mode.invariant c.each_token-t.ensures (eqb-false _ _ (sym c.is_eof.ensures ∙ c.if-is_eof.false))
+pub tokens-smaller : goal.tokens-smaller
+tokens-smaller c = passing_less c.tokens.invariant c.each_token-t.ensures (eqb-false _ _ (sym c.is_eof.ensures ∙ c.if-is_eof.false))
 
-pub loop-mode-preserved : goal.loop-mode-preserved
-loop-mode-preserved c = rw c.string_size.ensures
-    (passing_turn c.loop-mode.invariant c.each_token-t.ensures c.put_token.ensures
+pub tokens-preserved : goal.tokens-preserved
+tokens-preserved c = rw c.string_size.ensures
+    (passing_turn c.tokens.invariant c.each_token-t.ensures c.put_token.ensures
     (eqb-false _ _ (sym c.is_eof.ensures ∙ c.if-is_eof.false)))

@@ -4,8 +4,8 @@ use lib.ListN.{length}
 use Rattle.reading.proofs.Turns.{Passing}
 use Rattle.reading.proofs.text.write.Given as goal
 
-abbrev pub invariant-loop-mode : goal.invariant-loop-mode
-invariant-loop-mode l = Passing l.mode l.limit l.text l.initial.tokens l.initial.strings l.initial.reports l.tokens l.strings l.reports l.place l.counts.tokens l.counts.strings l.counts.reports
+abbrev pub invariant-tokens : goal.invariant-tokens
+invariant-tokens l = Passing l.how.mode l.how.limit l.text l.initial.tokens l.initial.strings l.initial.reports l.tokens l.strings l.reports l.place l.counts.tokens l.counts.strings l.counts.reports
 
-abbrev pub decreases-loop-mode : goal.decreases-loop-mode
-decreases-loop-mode l = length l.text - l.place.offset
+abbrev pub decreases-tokens : goal.decreases-tokens
+decreases-tokens l = length l.text - l.place.offset

@@ -34,7 +34,7 @@ use Rattle.reading.specs.Answers.{is_place}
 use Rattle.reading.specs.Chain.{of_one, Call, with_value, moved_by, Calls, last, more, ChainGivesWhole, ChainRuns}
 use Rattle.reading.proofs.NextToken.{string_at, reports_at, numbers_at, Read, string_few, reads, end_offset}
 use Rattle.reading.proofs.From.{from_eof, from_more, by_tokens}
-use Rattle.reading.proofs.Rows.{same_record, same_reports, records_length, one_strings, one_reports, one_count, held_records, held_strings, held_reports}
+use Rattle.reading.proofs.Rows.{same_record, same_reports, records_length, one_strings, one_reports, one_count, one_rows, held_records, held_strings, held_reports}
 use Rattle.reading.proofs.Refusals.{fits, room_answer}
 use Rattle.reading.proofs.Places.{place_is, is_place_lem}
 use Rattle.reading.proofs.TokenAnswers.{done}
@@ -150,8 +150,11 @@ module _ (m : Reading) (limit : ℕ) (text : List ℕ) where
             size = refl;
             room = room_answer held;
           })
-          {T' = sets T 0 (record_numbers (record_of 0 t))} {S' = sets S 0 (string_at m text t)} {R' = sets R 0 (numbers_at m limit text t)}
-          (record { of_record = refl; of_string = refl; of_notes = refl }) in
+          (record {
+            records = refl;
+            strings = ap (sets S 0) (sym (one_strings m limit text t));
+            reports = ap (sets R 0) (sym (one_rows m limit text t));
+          }) in
           let n = one_counted d refl in
           record {
             T = T;

@@ -146,6 +146,11 @@ written_lays {l} {T} {S} {R} h w =
       reports = w.reports ∙ overlaid (report_rows l.reports) R (omega (arith, report_rows_length l.reports, h.for_reports));
     }
 
+-- and so does what stands elsewhere as they stored it
+pub held_by : {l : Laid} {T : List ℤ} {S : List ℕ} {R T' T'' : List ℤ} {S' S'' : List ℕ} {R' R'' : List ℤ} → AllStored l T S R T' S' R'
+    → T'' ≡ T' → S'' ≡ S' → R'' ≡ R' → AllStored l T S R T'' S'' R''
+held_by d t s r = rw (t, s, r) d
+
 -- as much as is counted of what is laid lies in the buffers, and is what they hold first
 module _ {l : Laid} {T : List ℤ} {S : List ℕ} {R T' : List ℤ} {S' : List ℕ} {R' : List ℤ} (w : Lays 0 l T S R T' S' R')
     {c : Counts} (q : c ≡ counts_of l) where

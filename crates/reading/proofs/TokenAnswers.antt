@@ -18,8 +18,9 @@ use Rattle.reading.specs.Buffers.{records_of, record_rows, counts_of, one_laid}
 use Rattle.reading.specs.Refusals.{judge_of, room_of}
 use Rattle.reading.specs.Answers.{is_place, read_token_answer}
 use Rattle.reading.specs.Calls.{ReadsToken}
-use Rattle.reading.specs.Passes.{Few, Room, TokenRoom, TokenPut}
+use Rattle.reading.specs.Passes.{Few, Room, AllStored, StoredIn, TokenRoom, TokenPut}
 use Rattle.reading.specs.declared.counts.Counts.{Counts}
+use Rattle.reading.specs.declared.put.Buffers.{Buffers}
 use Rattle.reading.specs.declared.refusal.Refusal.{Refusal}
 use Rattle.reading.specs.declared.refusal.Refusal.TheVariants.{NoPlace}
 use Rattle.reading.specs.declared.one.OneToken.{OneToken}
@@ -27,7 +28,7 @@ use Rattle.reading.proofs.NextToken.{Read}
 use Rattle.reading.proofs.Places.{place_is}
 use Rattle.reading.proofs.Refusals.{untouched, fitting, enough}
 use Rattle.reading.proofs.Rows.{records_length, one_strings, one_count, one_rows, written_lays}
-use Rattle.reading.proofs.Turns.{read_of, token_room}
+use Rattle.reading.proofs.Turns.{none_yet, read_of, token_room}
 
 -- what an accepted call gives
 abbrev pub one_of : Reading → ℕ → List ℕ → Place → OneToken
@@ -105,28 +106,30 @@ module _ {m : Reading} {limit : ℕ} {text : List ℕ} {p : Place} {T : List ℤ
       let of_end = ap (λ (u : Token). u.end) w.token in
       cc
 
-  pub room : AreBytes text → TokenRoom m limit text t (length T) 0 (length S) 0 (length R) 0
-  room bytes =
-      let h = walkable m limit text p w.fit w.place in
-      let f : Room (one_laid m limit text p.offset) (length T) (length S) (length R) = fits in
-      let of_tokens = ap (λ (c : Counts). c.tokens) counts_are in
-      let of_strings = ap (λ (c : Counts). c.strings) counts_are in
-      let of_reports = ap (λ (c : Counts). c.reports) counts_are in
-      let z = w.size in
-      token_room m limit text p.offset h.inside t w.token bytes h.short (omega arith) (omega arith) (omega arith) (omega arith)
+  -- what has passed has room for the token, and storing it lays it
+  module _ {b : Buffers} where
+    pub room : AreBytes text → b.tokens.now ≡ T → b.strings.now ≡ S → b.reports.now ≡ R → TokenRoom m limit text t none_yet b
+    room bytes et es er =
+        let h = walkable m limit text p w.fit w.place in
+        let f : Room (one_laid m limit text p.offset) (length T) (length S) (length R) = fits in
+        let of_tokens = ap (λ (c : Counts). c.tokens) counts_are in
+        let of_strings = ap (λ (c : Counts). c.strings) counts_are in
+        let of_reports = ap (λ (c : Counts). c.reports) counts_are in
+        let z = w.size in
+        token_room m limit text p.offset h.inside t w.token bytes h.short (omega arith) (omega (arith, ap length et)) (omega (arith, ap length es))
+        (omega (arith, ap length er))
 
-  pub done : {T' : List ℤ} {S' : List ℕ} {R' : List ℤ} → TokenPut m limit text t 0 0 0 T S R T' S' R'
+    pub stored : {b' : Buffers} → TokenPut m limit text t none_yet b b' → StoredIn (one_laid m limit text p.offset) b b'
+    unfolding records_of record_rows
+    stored d =
+        rw (← w.token)
+        (record {
+          records = d.of_record;
+          strings = rw (one_strings m limit text t) d.of_string;
+          reports = rw (one_rows m limit text t) d.of_notes;
+        })
+
+  pub done : {T' : List ℤ} {S' : List ℕ} {R' : List ℤ} → AllStored (one_laid m limit text p.offset) T S R T' S' R'
       → ReadsToken m limit text p T S R (Ok (record { strings = s; reports = t.reports; end = t.end })) T' S' R'
-  unfolding read_token_answer records_of record_rows
-  done d =
-      record {
-        answer = rw (w.fit, w.place, w.room, one_is);
-        lays =
-            written_lays fits
-            (rw (← w.token)
-            (record {
-              records = d.of_record;
-              strings = rw (one_strings m limit text t) d.of_string;
-              reports = rw (one_rows m limit text t) d.of_notes;
-            }));
-      }
+  unfolding read_token_answer
+  done d = record { answer = rw (w.fit, w.place, w.room, one_is); lays = written_lays fits d }

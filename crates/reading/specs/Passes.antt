@@ -14,7 +14,9 @@ use Rattle.lexer.specs.declared.reading.Reading.{Reading}
 use Rattle.reading.specs.Buffers.{record_of, record_rows, report_rows, Laid}
 use Rattle.reading.specs.Refusals.{room_of}
 use Rattle.reading.specs.declared.counts.Counts.{Counts}
+use Rattle.reading.specs.declared.put.Buffers.{Buffers}
 
+-- Types of the code (src/put.rt). `Buffers`: the three lent buffers, `tokens`, `strings` and `reports`.
 -- Types that other files explain: `Mode` in lexeme/specs/Lexeme.antt; `Token` in lexer/specs/Token.antt; `Reading` in lexer/specs/Reading.antt; `Counts` in
 -- Buffers.antt.
 
@@ -29,11 +31,19 @@ pub record Room (l : Laid) (nt ns nr : ℕ) : Type 0 where
   pub for_strings : length l.strings ≤ ns
   pub for_reports : length l.reports * report_width ≤ nr
 
+-- the same of lent buffers
+abbrev pub RoomIn : Laid → Buffers → Type 0
+RoomIn l b = Room l (length b.tokens.now) (length b.strings.now) (length b.reports.now)
+
 -- what the second pass stores, from each buffer's start
 pub record AllStored (l : Laid) (T : List ℤ) (S : List ℕ) (R T' : List ℤ) (S' : List ℕ) (R' : List ℤ) : Type 0 where
   pub records : T' ≡ sets T 0 (record_rows l.records)
   pub strings : S' ≡ sets S 0 l.strings
   pub reports : R' ≡ sets R 0 (report_rows l.reports)
+
+-- the same of lent buffers
+abbrev pub StoredIn : Laid → Buffers → Buffers → Type 0
+StoredIn l b b' = AllStored l b.tokens.now b.strings.now b.reports.now b'.tokens.now b'.strings.now b'.reports.now
 
 -- a token whose string starts at p, small enough for a record, and room for it at i
 pub record RecordRoom (p : ℕ) (t : Token) (room i : ℕ) : Type 0 where
@@ -54,18 +64,24 @@ pub record NotesRoom (m : Reading) (limit : ℕ) (text : List ℕ) (t : Token) (
   pub walkable : Walkable text t.start t.start.offset
   pub fits : at + length (notes_numbers text t.start.offset (notes_in m limit (drop t.start.offset text))) ≤ room
 
--- room for all of a token
-pub record TokenRoom (m : Reading) (limit : ℕ) (text : List ℕ) (t : Token) (nt i ns s nr k : ℕ) : Type 0 where
-  pub of_record : RecordRoom s t nt i
-  pub of_string : StringRoom m text t ns s
-  pub of_notes : NotesRoom m limit text t nr k
+-- room for all of a token, after what is counted
+pub record TokenRoom (m : Reading) (limit : ℕ) (text : List ℕ) (t : Token) (c : Counts) (b : Buffers) : Type 0 where
+  pub of_record : RecordRoom c.strings t (length b.tokens.now) (c.tokens * record_width)
+  pub of_string : StringRoom m text t (length b.strings.now) c.strings
+  pub of_notes : NotesRoom m limit text t (length b.reports.now) (c.reports * report_width)
 
--- what it lays into the buffers
-pub record TokenPut (m : Reading) (limit : ℕ) (text : List ℕ) (t : Token) (i s k : ℕ)
-    (T : List ℤ) (S : List ℕ) (R T' : List ℤ) (S' : List ℕ) (R' : List ℤ) : Type 0 where
-  pub of_record : T' ≡ sets T i (record_numbers (record_of s t))
-  pub of_string : S' ≡ sets S s (string_in m (drop t.start.offset text))
-  pub of_notes : R' ≡ sets R k (notes_numbers text t.start.offset (notes_in m limit (drop t.start.offset text)))
+-- what it lays into the buffers, after what is counted
+pub record TokenPut (m : Reading) (limit : ℕ) (text : List ℕ) (t : Token) (c : Counts) (b b' : Buffers) : Type 0 where
+  pub of_record : b'.tokens.now ≡ sets b.tokens.now (c.tokens * record_width) (record_numbers (record_of c.strings t))
+  pub of_string : b'.strings.now ≡ sets b.strings.now c.strings (string_in m (drop t.start.offset text))
+  pub of_notes : b'.reports.now
+      ≡ sets b.reports.now (c.reports * report_width) (notes_numbers text t.start.offset (notes_in m limit (drop t.start.offset text)))
+
+-- the loans of b' are those of b
+pub record SameBuffers (b b' : Buffers) : Type 0 where
+  pub tokens : b'.tokens.ghost_name ≡ b.tokens.ghost_name
+  pub strings : b'.strings.ghost_name ≡ b.strings.ghost_name
+  pub reports : b'.reports.ghost_name ≡ b.reports.ghost_name
 
 -- how many reports a text of so many bytes can have: strict lexers make none
 abbrev pub most_notes : Mode → ℕ → ℕ

@@ -7,7 +7,7 @@ ghost use Rattle.reading.specs.Calls.{ReadsToken};
 use crate::counts::Counts;
 use crate::judge::judge;
 use crate::place::good_offset;
-use crate::put::put_token;
+use crate::put::Buffers;
 use crate::refusal::Refusal;
 use lexer::next::{next_token, string_size};
 use lexer::reading::Settings;
@@ -56,7 +56,12 @@ pub fn read_token(
         reports: t.reports,
     };
     counts.fit(tokens.len(), strings.len(), reports.len())?;
-    put_token(text, t, how, tokens, 0, strings, 0, reports, 0);
+    let mut buffers = Buffers {
+        tokens,
+        strings,
+        reports,
+    };
+    buffers.put(text, t, how, Counts::default());
     Ok(OneToken {
         strings: counts.strings,
         reports: counts.reports,

@@ -5,12 +5,13 @@ ghost use Rattle.token.specs.Layout.{record_numbers};
 ghost use Rattle.lexeme.specs.Helpers.{notes_numbers};
 ghost use Rattle.lexer.specs.Reading.{string_in, notes_in};
 ghost use Rattle.reading.specs.Buffers.{record_of};
-ghost use Rattle.reading.specs.Passes.{RecordRoom, StringRoom, NotesRoom, TokenRoom, TokenPut};
+ghost use Rattle.reading.specs.Passes.{RecordRoom, StringRoom, NotesRoom, TokenRoom, TokenPut, SameBuffers};
 
+use crate::counts::Counts;
 use lexer::next::{Token, string_size};
 use lexer::put::{put_reports, put_string};
 use lexer::reading::{Reading, Settings};
-use token::layout::Record;
+use token::layout::{RECORD_WIDTH, REPORT_WIDTH, Record};
 use token::place::Place;
 
 // Stores the record of a token whose string starts at `at`: there is a String's value, any other's is in the text.
@@ -66,23 +67,26 @@ fn put_notes(text: &[u8], t: Token, how: Settings, out: &mut [i64], at: usize)
     }
 }
 
-// Writes a token of the text: its record, its string and its reports. It becomes a part of its callers, so that the token need not lie in memory.
-#[inline(always)]
-pub fn put_token(
-    text: &[u8],
-    t: Token,
-    how: Settings,
-    tokens: &mut [i64],
-    i: usize,
-    strings: &mut [u8],
-    at: usize,
-    reports: &mut [i64],
-    k: usize,
-)
-    requires { TokenRoom how.mode how.limit text.now t (length tokens.old) i (length strings.old) at (length reports.old) k }
-    ensures { TokenPut how.mode how.limit text.now t i at k tokens.old strings.old reports.old tokens.new strings.new reports.new }
-{
-    put_record(t, at, tokens, i);
-    put_value(text, t, how.mode, strings, at);
-    put_notes(text, t, how, reports, k);
+// The three lent buffers of a reading. The public calls take them apart, as the C interface hands them over: a caller that makes the struct has to know
+// that it keeps the loans.
+#[derive(Drop)]
+pub struct Buffers<'a> {
+    pub tokens: &'a mut [i64],
+    pub strings: &'a mut [u8],
+    pub reports: &'a mut [i64],
+}
+
+impl Buffers<'_> {
+    // Writes a token of the text, after what is counted: its record, its string and its reports. It becomes a part of its callers, so that the
+    // token need not lie in memory.
+    #[inline(always)]
+    pub fn put(&mut self, text: &[u8], t: Token, how: Settings, counts: Counts)
+        requires { TokenRoom how.mode how.limit text.now t counts self.old }
+        ensures same_buffers { SameBuffers self.old self.new }
+        ensures put { TokenPut how.mode how.limit text.now t counts self.old self.new }
+    {
+        put_record(t, counts.strings, self.tokens, counts.tokens * RECORD_WIDTH);
+        put_value(text, t, how.mode, self.strings, counts.strings);
+        put_notes(text, t, how, self.reports, counts.reports * REPORT_WIDTH);
+    }
 }

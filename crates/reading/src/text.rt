@@ -4,16 +4,15 @@ ghost use Rattle.limits.specs.Limits.{max_message_size};
 ghost use Rattle.utf8.specs.Grammar.{Octets};
 ghost use Rattle.reading.specs.Buffers.{whole_laid, counts_of};
 ghost use Rattle.reading.specs.Calls.{ReadsText};
-ghost use Rattle.reading.specs.Passes.{Room, AllStored, most_counts};
+ghost use Rattle.reading.specs.Passes.{RoomIn, StoredIn, SameBuffers, most_counts};
 
 use crate::counts::Counts;
 use crate::judge::judge;
-use crate::put::put_token;
+use crate::put::Buffers;
 use crate::refusal::Refusal;
 use lexeme::Mode;
 use lexer::next::{each_token, next_lexeme, string_size};
 use lexer::reading::{Reading, Settings};
-use token::layout::{RECORD_WIDTH, REPORT_WIDTH};
 use token::place::Place;
 
 // The first pass: it counts, and needs no places.
@@ -37,23 +36,17 @@ fn measure(text: &[u8], how: Settings) -> Counts
 }
 
 // The second pass: each token's record, string and reports, one after the other. It counts too.
-fn write(
-    text: &[u8],
-    how: Settings,
-    tokens: &mut [i64],
-    strings: &mut [u8],
-    reports: &mut [i64],
-) -> Counts
-    requires { (length text.now ≤ max_message_size) × Room (whole_laid how.mode how.limit text.now) (length tokens.old) (length strings.old) (length reports.old) × Octets text.now }
-    ensures { (result ≡ counts_of (whole_laid how.mode how.limit text.now)) × AllStored (whole_laid how.mode how.limit text.now) tokens.old strings.old reports.old tokens.new strings.new reports.new }
+fn write(text: &[u8], how: Settings, buffers: &mut Buffers<'_>) -> Counts
+    requires { (length text.now ≤ max_message_size) × RoomIn (whole_laid how.mode how.limit text.now) buffers.old × Octets text.now }
+    ensures same_buffers { SameBuffers buffers.old buffers.new }
+    ensures counted { result ≡ counts_of (whole_laid how.mode how.limit text.now) }
+    ensures stored { StoredIn (whole_laid how.mode how.limit text.now) buffers.old buffers.new }
 {
     let mut counts = Counts::default();
     let mut place = Place::first();
     'tokens: loop {
         let t = each_token(text, place, how);
-        let i = counts.tokens * RECORD_WIDTH;
-        let k = counts.reports * REPORT_WIDTH;
-        put_token(text, t, how, tokens, i, strings, counts.strings, reports, k);
+        buffers.put(text, t, how, counts);
         counts.tokens += 1;
         if t.kind.is_eof() {
             return counts;
@@ -95,5 +88,10 @@ pub fn read_text(
     if most(how.mode, text.len()).fit(nt, ns, nr).is_err() {
         measure(text, how).fit(nt, ns, nr)?;
     }
-    Ok(write(text, how, tokens, strings, reports))
+    let mut buffers = Buffers {
+        tokens,
+        strings,
+        reports,
+    };
+    Ok(write(text, how, &mut buffers))
 }

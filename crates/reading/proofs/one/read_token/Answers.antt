@@ -1,13 +1,15 @@
 -- `read_token` answers by the first check that fails, before anything is stored; else it stores the token. Assumes nothing.
 use mathlib.Core.Bool.{true}
-use mathlib.Core.Path.{◌≡◌, sym, ◌∙◌}
+use mathlib.Core.Path.{◌≡◌, refl, sym, ◌∙◌}
 use Rattle.std.proofs.lemmas.Result.{err_from_is_err_and}
 use Rattle.std.specs.Prelude.{Ok}
 use Rattle.reading.specs.Refusals.{judge_of}
 use Rattle.reading.specs.Answers.{is_place}
 use Rattle.reading.proofs.Refusals.{fitting, well_octets}
-use Rattle.reading.proofs.TokenAnswers.{walkable, few, counted, unfit, no_place, short, Passed, room, done}
+use Rattle.reading.proofs.TokenAnswers.{walkable, few, counted, unfit, no_place, short, Passed, room, stored, done}
+use Rattle.reading.proofs.Rows.{held_by}
 use Rattle.reading.proofs.one.read_token.Goals.{Else-not-is_place, In_ok-fit}
+use borrow.Author.Rules.{rules}
 use Rattle.reading.proofs.one.read_token.Goals as goal
 
 -- the text fits, and the place is one of it
@@ -63,12 +65,15 @@ returns-in_err-fit c =
     rw (p.1, p.2)
     (short j f (rw (counted _ _ _ _ j f c.next_token-t.ensures c.string_size.ensures) at (sym c.fit.ensures ∙ c.in_err-fit.was)))
 
-pub put_token-requires : goal.put_token-requires
-put_token-requires c =
-    let at = goal.at.put_token-requires c in
-    room (passed at.In_ok-fit) (λ k. (c.type_inv.text k).fits)
+pub put-requires : goal.put-requires
+put-requires c =
+    let at = goal.at.put-requires c in
+    let e = c.default.ensures in
+    rw (e.0, e.1.0, e.1.1) (room (passed at.In_ok-fit) (λ k. (c.type_inv.text k).fits) refl refl refl)
 
 pub returns : goal.returns
 returns c =
     let at = goal.at.returns c in
-    done (passed at.In_ok-fit) c.put_token.ensures
+    let e = c.default.ensures in
+    let w = passed at.In_ok-fit in
+    done w (held_by (stored w (rw (e.0, e.1.0, e.1.1) at c.put.ensures.put)) (search rules) (search rules) (search rules))

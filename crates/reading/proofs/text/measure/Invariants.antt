@@ -5,7 +5,7 @@ use Rattle.reading.proofs.Turns.{Measuring}
 use Rattle.reading.proofs.text.measure.Given as goal
 
 abbrev pub invariant-tokens : goal.invariant-tokens
-invariant-tokens l = Measuring l.how.mode l.how.limit l.text l.at l.counts.tokens l.counts.strings l.counts.reports
+invariant-tokens l = Measuring l.how.mode l.how.limit l.text l.at l.counts
 
 abbrev pub decreases-tokens : goal.decreases-tokens
 decreases-tokens l = length l.text - l.at

@@ -7,8 +7,10 @@ use Rattle.reading.specs.Buffers.{whole_laid}
 use Rattle.reading.specs.Passes.{Room}
 use Rattle.reading.proofs.Refusals.{fitting, well_octets, enough}
 use Rattle.reading.proofs.Fits.{suffice_room}
+use Rattle.reading.proofs.Rows.{held_by}
 use Rattle.reading.proofs.TextAnswers.{most_few, few, unfit, short, done}
 use Rattle.reading.proofs.text.read_text.Goals.{Joined-is_err, then-is_err+in_ok-fit, else-is_err}
+use borrow.Author.Rules.{rules}
 use Rattle.reading.proofs.text.read_text.Goals as goal
 
 -- the buffers hold the result: they pass with what is measured, or suffice in any case
@@ -52,4 +54,5 @@ write-requires c =
 pub returns : goal.returns
 returns c =
     let at = goal.at.returns c in
-    done (sym c.in_ok-judge.ensures) c.write.ensures.0 (roomy at.Joined-is_err) c.write.ensures.1
+    let w = c.write.ensures in
+    done (sym c.in_ok-judge.ensures) w.counted (roomy at.Joined-is_err) (held_by w.stored (search rules) (search rules) (search rules))

@@ -5,7 +5,7 @@ use Rattle.reading.proofs.Turns.{Passing}
 use Rattle.reading.proofs.text.write.Given as goal
 
 abbrev pub invariant-tokens : goal.invariant-tokens
-invariant-tokens l = Passing l.how.mode l.how.limit l.text l.initial.tokens l.initial.strings l.initial.reports l.tokens l.strings l.reports l.place l.counts.tokens l.counts.strings l.counts.reports
+invariant-tokens l = Passing l.how.mode l.how.limit l.text l.initial.buffers l.buffers l.place l.counts
 
 abbrev pub decreases-tokens : goal.decreases-tokens
 decreases-tokens l = length l.text - l.place.offset

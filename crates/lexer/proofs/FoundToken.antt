@@ -109,6 +109,11 @@ module _ {text : List ℕ} {p : Place} (w : Walkable text p p.offset) where
     unfolding next_token found_at
     past_next m limit = rw past_offset
 
+-- what is lexed of the rest from a place on, which is lent as a slice
+pub lexed_here : (m : Reading) (limit : ℕ) {text : List ℕ} {p : Place} → Walkable text p p.offset → {x : Lexeme}
+    → x ≡ lexeme_in m limit (take (length text - p.offset) (drop p.offset text)) → x ≡ lexeme_in m limit (drop p.offset text)
+lexed_here m limit w e = rw rest_is at e
+
 -- the token that starts at a place of the text
 module _ (m : Reading) (limit : ℕ) {text : List ℕ} {p : Place} (w : Walkable text p p.offset) {x : Lexeme}
     (e : x ≡ lexeme_in m limit (drop p.offset text)) where

@@ -2,6 +2,7 @@
 #![tactic(auto)]
 
 pub mod class;
+pub mod cursor;
 pub mod lex;
 pub mod next;
 pub mod put;

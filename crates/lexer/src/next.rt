@@ -3,9 +3,8 @@ ghost use Rattle.std.specs.Prelude.{◌≡◌, ◌+◌, ◌≤◌, ◌<◌, eqb,
 ghost use Rattle.base.specs.Choice.{pick};
 ghost use Rattle.utf8.specs.Grammar.{Octets};
 ghost use Rattle.token.specs.Place.{place_at};
-ghost use Rattle.token.specs.Helpers.{Walkable};
 ghost use Rattle.lexer.specs.Helpers.{mark_lexeme, Ending, Placing};
-ghost use Rattle.lexer.specs.Token.{start_at, found_from, found_at, placed, token_of, next_token, string_size};
+ghost use Rattle.lexer.specs.Token.{start_at, found_at, placed, string_size};
 
 use crate::class::mark;
 use crate::lex::lex_in;
@@ -42,14 +41,14 @@ pub struct Token {
 }
 
 // Where the token after an offset starts: past the blanks.
-fn skip_spaces(text: &[u8], at: usize) -> usize
+pub(crate) fn skip_spaces(text: &[u8], at: usize) -> usize
     ensures { result ≡ start_at text.now at }
 {
     reach_run(Blank, text, at)
 }
 
 // The lexeme of a mark: a newline has no value, any other mark is its own.
-fn mark_lexeme(kind: TokenKind) -> Lexeme
+pub(crate) fn mark_lexeme(kind: TokenKind) -> Lexeme
     ensures { result ≡ mark_lexeme kind }
 {
     if kind.is_newline() {
@@ -85,7 +84,7 @@ fn precision_at(start: usize, precision: usize, digits: usize) -> usize
 
 // The place where a token of a kind and length ends. Only some kinds can have a newline; the walk gets and gives a place of its own, so that
 // the others' places stay in registers.
-fn end_place(text: &[u8], start: Place, kind: TokenKind, len: usize) -> Place
+pub(crate) fn end_place(text: &[u8], start: Place, kind: TokenKind, len: usize) -> Place
     requires { Ending text.now start kind len }
     ensures { result ≡ place_at text.now (start.offset + len) }
 {
@@ -111,24 +110,8 @@ fn end_place(text: &[u8], start: Place, kind: TokenKind, len: usize) -> Place
     }
 }
 
-// The place past the blanks after a place, which have no newline.
-fn past_blanks(text: &[u8], place: Place) -> Place
-    requires { Walkable text.now place place.offset }
-    ensures { result ≡ place_at text.now (start_at text.now place.offset) }
-{
-    let at = place.offset;
-    let offset = skip_spaces(text, at);
-    let gap = offset - at;
-    let column = place.column + gap;
-    Place {
-        offset,
-        line: place.line,
-        column,
-    }
-}
-
 // A token between two places. The lexeme's fields are read one by one where they lie: a copy of it would wait until all of it is stored.
-fn placed(start: Place, end: Place, x: Lexeme) -> Token
+pub(crate) fn placed(start: Place, end: Place, x: Lexeme) -> Token
     requires { Placing start x }
     ensures { result ≡ placed start.offset start end x }
 {
@@ -149,41 +132,6 @@ fn placed(start: Place, end: Place, x: Lexeme) -> Token
         nanos: x.nanos,
         reports: x.reports,
     }
-}
-
-// The token that starts at a place, after the blanks.
-fn token_from(text: &[u8], start: Place, how: Settings) -> Token
-    requires { Walkable text.now start start.offset × Octets text.now }
-    ensures { result ≡ token_of text.now (found_from how.mode how.limit text.now start.offset) }
-{
-    let first = start.offset;
-    let x = lex_in(&text[first..], how);
-    let kind = x.kind;
-    let end = end_place(text, start, kind, x.len);
-    placed(start, end, x)
-}
-
-// The token after a place of the text, with its places.
-pub fn next_token(text: &[u8], place: Place, how: Settings) -> Token
-    requires { Walkable text.now place place.offset × Octets text.now }
-    ensures { result ≡ next_token how.mode how.limit text.now place.offset }
-{
-    token_from(text, past_blanks(text, place), how)
-}
-
-// The same, for the loop that reads all tokens: most are marks, which need no lexer and no search for newlines. Called from that loop alone, it
-// becomes a part of it, and the token stays in registers.
-pub fn each_token(text: &[u8], place: Place, how: Settings) -> Token
-    requires { Walkable text.now place place.offset × Octets text.now }
-    ensures { result ≡ next_token how.mode how.limit text.now place.offset }
-{
-    let start = past_blanks(text, place);
-    let first = start.offset;
-    let b = peek(text, first);
-    if let Some(kind) = mark(b) {
-        return placed(start, start.step(b), mark_lexeme(kind));
-    }
-    token_from(text, start, how)
 }
 
 // How many bytes a token lays into the string buffer.

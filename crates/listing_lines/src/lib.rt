@@ -13,7 +13,8 @@ ghost use Rattle.listing_lines.specs.Listing.{token_lines, lines_size, Fills, Li
 ghost use Rattle.listing_lines.specs.Rows.{line_at, row_lines};
 
 use base::answer::Numbered;
-use lexer::next::{Token, next_token};
+use lexer::cursor::Cursor;
+use lexer::next::Token;
 use lexer::reading::{Reading, Settings};
 use limits::default_bytes_limit;
 use notation::numbers::{number_size, separator_before, write_number};
@@ -93,7 +94,8 @@ fn lines_size(text: &[u8]) -> usize
     let mut place = Place::first();
     let mut size = 0;
     'tokens: loop {
-        let t = next_token(text, place, how);
+        let here = Cursor { text, place };
+        let t = here.next_token(how);
         size += line_size(&token_numbers(t));
         if t.kind.is_eof() {
             return size;

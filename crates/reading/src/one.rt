@@ -9,7 +9,8 @@ use crate::judge::judge;
 use crate::place::good_offset;
 use crate::put::Buffers;
 use crate::refusal::Refusal;
-use lexer::next::{next_token, string_size};
+use lexer::cursor::Cursor;
+use lexer::next::string_size;
 use lexer::reading::Settings;
 use token::place::{Place, walk};
 
@@ -49,7 +50,8 @@ pub fn read_token(
     if !is_place(text, place) {
         return Err(Refusal::NoPlace);
     }
-    let t = next_token(text, place, how);
+    let here = Cursor { text, place };
+    let t = here.next_token(how);
     let counts = Counts {
         tokens: 1,
         strings: string_size(t.kind, t.size),

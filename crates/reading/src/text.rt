@@ -11,7 +11,8 @@ use crate::judge::judge;
 use crate::put::Buffers;
 use crate::refusal::Refusal;
 use lexeme::Mode;
-use lexer::next::{each_token, next_lexeme, string_size};
+use lexer::cursor::Cursor;
+use lexer::next::{next_lexeme, string_size};
 use lexer::reading::{Reading, Settings};
 use token::place::Place;
 
@@ -45,7 +46,8 @@ fn write(text: &[u8], how: Settings, buffers: &mut Buffers<'_>) -> Counts
     let mut counts = Counts::default();
     let mut place = Place::first();
     'tokens: loop {
-        let t = each_token(text, place, how);
+        let here = Cursor { text, place };
+        let t = here.each_token(how);
         buffers.put(text, t, how, counts);
         counts.tokens += 1;
         if t.kind.is_eof() {

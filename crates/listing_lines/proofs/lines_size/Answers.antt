@@ -3,6 +3,7 @@ use mathlib.Core.Path.{◌≡◌, sym, ◌∙◌}
 use native.Mathlib.Omega.{arith}
 use lib.ListN.{length}
 use borrow.Author.Tests.{eqb-true, eqb-false}
+use Rattle.utf8.proofs.Valid.{octets_valid}
 use Rattle.limits.specs.Limits.{max_bytes_literal_length}
 use Rattle.lexer.specs.declared.reading.Reading.TheVariants.{Strict}
 use Rattle.lexer.specs.Token.{next_token}
@@ -22,6 +23,9 @@ size_is c = rw c.token_numbers.ensures at c.line_size-size.ensures
 
 pub tokens-init : goal.tokens-init
 tokens-init c = search measuring_start
+
+pub invariant_of-here : goal.invariant_of-here
+invariant_of-here c = record { walkable = c.tokens.invariant.walkable; well_formed = octets_valid c.requires.1 }
 
 pub token_numbers-requires : goal.token_numbers-requires
 token_numbers-requires c =

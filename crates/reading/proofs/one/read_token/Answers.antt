@@ -3,6 +3,7 @@ use mathlib.Core.Bool.{true}
 use mathlib.Core.Path.{◌≡◌, refl, sym, ◌∙◌}
 use Rattle.std.proofs.lemmas.Result.{err_from_is_err_and}
 use Rattle.std.specs.Prelude.{Ok}
+use Rattle.utf8.proofs.Valid.{octets_valid}
 use Rattle.reading.specs.Refusals.{judge_of}
 use Rattle.reading.specs.Answers.{is_place}
 use Rattle.reading.proofs.Refusals.{fitting, well_octets}
@@ -44,12 +45,15 @@ is_place-requires c = (fitting _ (sym c.in_ok-judge.ensures)).0
 pub returns-then-not-is_place : goal.returns-then-not-is_place
 returns-then-not-is_place c = no_place (sym c.in_ok-judge.ensures) (sym c.is_place.ensures ∙ c.if-not-is_place.true)
 
-pub next_token-t-requires : goal.next_token-t-requires
-next_token-t-requires c =
-    let at = goal.at.next_token-t-requires c in
+pub invariant_of-here : goal.invariant_of-here
+invariant_of-here c =
+    let at = goal.at.invariant_of-here c in
     let a = c.args in
     let j = fit at.Else-not-is_place in
-    (walkable a.how.mode a.how.limit a.text.now a.place j (placed at.Else-not-is_place), well_octets _ (fitting _ j).1)
+    record {
+      walkable = walkable a.how.mode a.how.limit a.text.now a.place j (placed at.Else-not-is_place);
+      well_formed = octets_valid (well_octets _ (fitting _ j).1);
+    }
 
 pub fit-requires : goal.fit-requires
 fit-requires c =

@@ -2,11 +2,15 @@
 use mathlib.Core.Path.{sym, ◌∙◌}
 use native.Mathlib.Omega.{arith}
 use borrow.Author.Tests.{eqb-true, eqb-false}
+use Rattle.utf8.proofs.Valid.{octets_valid}
 use Rattle.reading.proofs.Turns.{passing_start, passing_less, passing_few, passing_room, passing_turn, passing_end}
 use Rattle.reading.proofs.text.write.Goals as goal
 
 pub tokens-init : goal.tokens-init
 tokens-init c = let e = c.default-counts.ensures in rw (e.0, e.1.0, e.1.1) (search passing_start)
+
+pub invariant_of-here : goal.invariant_of-here
+invariant_of-here c = record { walkable = c.tokens.invariant.walkable; well_formed = octets_valid c.requires.2 }
 
 pub put-requires : goal.put-requires
 put-requires c = passing_room c.tokens.invariant c.each_token-t.ensures (λ k. (c.type_inv.text k).fits)

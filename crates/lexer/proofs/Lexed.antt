@@ -10,6 +10,7 @@ use native.Mathlib.Omega.{arith}
 use lib.Dec.{ltb, eqb, lit<}
 use lib.ListN.{length, take, drop}
 use borrow.Author.Tests.{eq-eqb, ne_eqb}
+use Rattle.std.specs.Prelude.{Some}
 use Rattle.base.specs.Bytes.{byte}
 use Rattle.base.specs.Classes.{is_ident_start}
 use Rattle.base.proofs.Tests.{in_text, pick_case, true_false, zero_one}
@@ -20,7 +21,8 @@ use Rattle.utf8.proofs.Boundaries.{ascii_boundary, boundary_rest}
 use Rattle.go_duration.specs.Written.{SumOfParts}
 use Rattle.go_duration.proofs.WrittenSums.{sum_of_parts}
 use Rattle.token.specs.Kind.{kind_number, string_number}
-use Rattle.token.specs.Reason.{bad_duration}
+use Rattle.token.specs.Reason.{number_of, reason_number}
+use Rattle.token.specs.declared.reason.Reason.TheVariants as R
 use Rattle.token.specs.Helpers.{on_one_line, Flat}
 use Rattle.token.proofs.KindNumbers.{number_kind_lem}
 use Rattle.token.specs.declared.kind.TokenKind.{TokenKind}
@@ -50,7 +52,7 @@ use Rattle.strings.proofs.Laws.{string_boundary}
 use Rattle.strings.specs.Literal.{lex_string, string_bytes, string_notes}
 use Rattle.triple_strings.specs.Triple.{quotes, closed, open_triple, lex_triple_string, triple_bytes, triple_notes}
 use Rattle.triple_strings.proofs.QuoteSearch.{quotes_long}
-use Rattle.triple_strings.proofs.Triples.{triple_within, triple_reason, triple_size, triple_boundary}
+use Rattle.triple_strings.proofs.Triples.{triple_within, triple_size, triple_boundary}
 use Rattle.triple_strings.proofs.ValueOctets.{triple_utf8}
 use Rattle.lexer.specs.Lexer.{class_at, lex_by, lexeme_of, string_by, string_of, notes_by, notes_of}
 use Rattle.lexer.specs.Token.{string_size}
@@ -131,7 +133,7 @@ bytes_kind Strict s (stop.Open n) = refl
 bytes_kind Tolerant s (stop.Open n) = refl
 
 -- what a literal of the two string lexers finds
-literal_facts : (s : List ℕ) (r : Lexeme) (bytes : List ℕ) (ns : List Note) → Within s r → r.reason ≤ bad_duration
+literal_facts : (s : List ℕ) (r : Lexeme) (bytes : List ℕ) (ns : List Note) → Within s r → (r.reason ≡ Some R.BadTimestamp → ⊥)
     → (r.kind ≡ K.String) ⊎ (r.kind ≡ K.Illegal) → length bytes ≡ r.size → (r.kind ≡ K.Illegal → bytes ≡ []) → length ns ≡ r.reports
     → NotesIn (length s) ns → (Boundary s 0 → Boundary s r.len) → (Boundary s 0 → Octets bytes) → Facts s r bytes ns
 unfolding on_one_line kind_number
@@ -180,6 +182,19 @@ triple_kind m s = pick_case (λ (r : Lexeme). (r.kind ≡ K.String) ⊎ (r.kind 
     go Strict = inr refl
     go Tolerant = inl refl
 
+-- the reason of a string is none of a timestamp
+triple_reason : (m : Mode) (s : List ℕ) → (lex_triple_string m s).reason ≡ Some R.BadTimestamp → ⊥
+unfolding lex_triple_string
+triple_reason m s = pick_case (λ (r : Lexeme). r.reason ≡ Some R.BadTimestamp → ⊥) (closed s) (λ _ e. absurd cc) (λ _. go m)
+  where
+    go : (n : Mode) → (open_triple n s).reason ≡ Some R.BadTimestamp → ⊥
+    go Strict e = absurd cc
+    go Tolerant e = absurd cc
+
+literal_reason : (m : Mode) (s : List ℕ) → 0 < length s → (lex_string m s).reason ≡ Some R.BadTimestamp → ⊥
+unfolding reason_number
+literal_reason m s h e = omega (arith, string_reason m s h, ap number_of e)
+
 module _ (m : Mode) (limit : ℕ) (s : List ℕ) (h : 0 < length s) where
   single_facts : (k : TokenKind) → Mark (byte s 0) k → Facts s (whole k 1) [] []
   single_facts k q =
@@ -202,11 +217,11 @@ module _ (m : Mode) (limit : ℕ) (s : List ℕ) (h : 0 < length s) where
       let z : quotes s ≡ true = rw (q.0, q.1.0, q.1.1) in
       let c = triple_size m s in
       literal_facts s (lex_triple_string m s) (triple_bytes m s) (triple_notes m s) (triple_within m s (quotes_long s z))
-      (omega (arith, triple_reason m s)) (triple_kind m s) c.bytes_counted c.illegal_none c.notes_counted
+      (triple_reason m s) (triple_kind m s) c.bytes_counted c.illegal_none c.notes_counted
       (notes_all (length s) (triple_notes m s) (λ x i. omega (arith, c.at_start x i))) (λ b. triple_boundary m s b z)
       (λ b. triple_utf8 m s (boundary_rest s 0 b) z)
   by_class C.Quote q =
-      literal_facts s (lex_string m s) (string_bytes m s) (string_notes m s) (string_within m s h) (omega (arith, string_reason m s h))
+      literal_facts s (lex_string m s) (string_bytes m s) (string_notes m s) (string_within m s h) (literal_reason m s h)
       (string_kind m s) (string_size_lem m s) (illegal_bytes m s) (string_notes_size m s)
       (notes_all (length s) (string_notes m s) (λ x i. (notes_in_lem m s h x i).offset_in)) (λ b. string_boundary m s h b) (λ b. string_utf8 m s)
   by_class C.Bytes q =

@@ -15,7 +15,7 @@ use Rattle.utf8.specs.Grammar.{Octets}
 use Rattle.utf8.specs.Onward.{Boundary}
 use Rattle.go_duration.specs.Written.{SumOfParts}
 use Rattle.token.specs.Kind.{kind_number, eof_number, duration_number}
-use Rattle.token.specs.Helpers.{on_one_line, Flat, last_reason}
+use Rattle.token.specs.Helpers.{on_one_line, Flat}
 use Rattle.token.proofs.KindNumbers.{IsEof, number_kind_lem}
 use Rattle.lexeme.specs.declared.Lexeme.{Lexeme}
 use Rattle.lexeme.proofs.Notes.{NotesIn, none}
@@ -39,7 +39,6 @@ pub record Lexes (r : Reading) (limit : ℕ) (s : List ℕ) (x : Lexeme) : Type 
   pub value_in : x.value + x.size ≤ x.len
   pub precision_in : x.precision + x.digits ≤ x.len
   pub reports_in : x.reports ≤ x.len
-  pub reason_in : x.reason ≤ last_reason
   pub detail_in : AreBytes s → x.detail < 0x200000
   -- its string and its reports are as many as it says
   pub string_counted : length (string_in r s) ≡ string_size x.kind x.size
@@ -60,7 +59,7 @@ unfolding lexeme_in string_in notes_in lexeme_of string_of notes_of kind_number 
 at_end r limit [] e =
     let x = lexeme_in r limit [] in
     let d : kind_number x.kind ≡ duration_number → SumOfParts (take x.len []) x.nanos = λ k. absurd (omega arith) in
-    let t : StampRun x.kind x.reason (take x.len []) = no_stamp (λ k. absurd (omega (arith, ap kind_number k))) (omega arith) in
+    let t : StampRun x.kind x.reason (take x.len []) = no_stamp (λ k. absurd (omega (arith, ap kind_number k))) (λ k. absurd cc) in
     search (none, octets.none, rules)
 at_end r limit (x ∷ s) e = absurd (omega arith)
 

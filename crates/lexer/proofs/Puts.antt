@@ -1,22 +1,24 @@
--- For `put_string`, `put_at_start` and `put_reports`: what a token lays into the buffers, where it lays something. Its class is one of few, and the
+-- For `put_string` and `put_reports`: what a token lays into the buffers, where it lays something. Its class is one of few, and the
 -- lexer of that class says what. By cases on the class. Assumes nothing.
 use mathlib.Core.Path.{◌≡◌, refl, sym, ap, ◌∙◌, subst}
 use mathlib.Core.Bool.{Bool, true, false, ◌&&◌}
 use mathlib.Core.Logic.{⊎_elim, ◌⊎◌, inl, inr}
 use mathlib.Core.List.{List, [], ◌∷◌}
-use Prim.Native.Nat.{ℕ, ◌+◌, ◌≤◌, ◌<◌}
+use Prim.Native.Nat.{ℕ, ◌+◌, ◌-◌, ◌≤◌, ◌<◌}
 use native.Mathlib.Nat.{add-zero}
 use native.Mathlib.Omega.{arith}
-use lib.Dec.{ltb, eqb, lit≤}
-use lib.ListN.{length, drop, length-drop}
+use lib.Dec.{ltb, eqb}
+use lib.IntN.{ℤ}
+use lib.ListN.{length, take, drop, length-drop}
 use borrow.Author.Tests.{eqb-true, ne_eqb}
 use Rattle.base.specs.Choice.{pick}
 use Rattle.base.specs.Bytes.{byte}
-use Rattle.base.proofs.Tests.{and_left, and_right, true_false}
-use Rattle.token.specs.Place.{place_at}
-use Rattle.token.specs.Helpers.{Walkable, ReportFits, last_reason}
+use Rattle.base.proofs.Reaches.{rest_is}
+use Rattle.base.proofs.Tests.{and_left, and_right, by_cases, true_false}
+use Rattle.std.specs.Prelude.{Option, Some, None}
+use Rattle.token.specs.Helpers.{ReportFits}
 use Rattle.token.specs.Layout.{report_width, report_numbers}
-use Rattle.token.specs.Reason as reasons
+use Rattle.token.specs.declared.reason.Reason.{Reason}
 use Rattle.token.specs.declared.kind.TokenKind.TheVariants as K
 use Rattle.token.specs.declared.place.Place.{Place}
 use Rattle.lexeme.specs.Lexeme.{Note, note_at_start}
@@ -33,7 +35,7 @@ use Rattle.scan.specs.Helpers.{stop_reason}
 use Rattle.scan.specs.declared.bytes.Stop.{Stop}
 use Rattle.scan.specs.declared.bytes.Stop.TheVariants as stop
 use Rattle.strings.specs.Literal.{literal_of, lex_string, string_bytes, string_notes}
-use Rattle.strings.specs.Helpers.{Sized}
+use Rattle.strings.specs.Helpers.{Sized, NotesFit}
 use Rattle.strings.proofs.Laws.{string_kind, string_bytes_lem, string_sized, illegal_bytes}
 use Rattle.triple_strings.specs.Dedent.{dedent}
 use Rattle.triple_strings.specs.Triple as literal
@@ -42,7 +44,7 @@ use Rattle.triple_strings.proofs.Triples.{triple_size, triple_bytes_lem}
 use Rattle.lexer.specs.Lexer as lexer
 use Rattle.lexer.specs.Lexer.{class_of, class_at, lex_by, lexeme_of, string_by, string_of, notes_of}
 use Rattle.lexer.specs.Reading.{mode_of, lexeme_in, string_in, notes_in}
-use Rattle.lexer.specs.Helpers.{ReportRoom}
+use Rattle.lexer.specs.Helpers.{start_reason, ReportRoom}
 use Rattle.lexer.specs.declared.reading.Reading.{Reading}
 use Rattle.lexer.specs.declared.class.Class.{Class}
 use Rattle.lexer.specs.declared.class.Class.TheVariants as C
@@ -130,16 +132,6 @@ module _ (r : Reading) (s : List ℕ) (h : 0 < length (string_in r s)) where
 
 -- ---- the reports
 
--- the numbers of a report at the place where a token starts
-pub start_numbers : (text : List ℕ) (p : Place) (r : ℕ) → p ≡ place_at text p.offset
-    → notes_numbers text p.offset (note_at_start r ∷ []) ≡ report_numbers (report_at p r 0)
-unfolding notes_numbers report_of
-start_numbers text p r e = rw (add-zero p.offset) (ap (λ (q : Place). report_numbers (report_at q r 0)) (sym e))
-
--- a report at a place of a text that is read has small numbers
-pub start_fits : (text : List ℕ) (p : Place) (r : ℕ) → Walkable text p p.offset → r ≤ last_reason → ReportFits (report_at p r 0)
-start_fits text p r w h = report_fits text p.offset p r 0 w.true_place w.inside w.short h (omega arith)
-
 -- a literal that can be open has one report where it has some
 open_one : {note : Note} (notes : Mode → List Note) → notes Strict ≡ [] → notes Tolerant ≡ note ∷ []
     → (b : Bool) (m : Mode) → 0 < length (pick b [] (notes m)) → pick b [] (notes m) ≡ note ∷ []
@@ -147,49 +139,36 @@ open_one notes s t true m h = absurd (omega arith)
 open_one notes s t false Strict h = absurd (omega (arith, ap length s))
 open_one notes s t false Tolerant h = t
 
-block_one : (m : Mode) (s : List ℕ) → 0 < length (block_notes m s) → block_notes m s ≡ note_at_start reasons.open_block_comment ∷ []
-unfolding block_notes
-block_one m s h = open_one comment.open_comment_notes refl refl (ltb (body_end s) (length s)) m h
+-- the reports of a token, by the reason of the one at its start
+abbrev Said : Mode → List ℕ → List Note → Option Reason → Type 0
+Said m s ns (Some r) = ns ≡ note_at_start r ∷ []
+Said m s ns None = ns ≡ string_notes m s
 
-triple_one : (m : Mode) (s : List ℕ) → 0 < length (triple_notes m s) → triple_notes m s ≡ note_at_start reasons.open_triple_string ∷ []
-unfolding triple_notes
-triple_one m s h = open_one literal.open_triple_notes refl refl (closed s) m h
-
-bytes_one : (m : Mode) (e : Stop) → 0 < length (stop_notes m e) → stop_notes m e ≡ note_at_start (stop_reason e) ∷ []
+bytes_said : (s : List ℕ) (m : Mode) (e : Stop) → 0 < length (stop_notes m e) → Said m s (stop_notes m e) (stop_reason e)
 unfolding stop_reason
-bytes_one Strict e l = absurd (omega arith)
-bytes_one Tolerant (stop.Over n) l = absurd (omega arith)
-bytes_one Tolerant (stop.Closed n) l = absurd (omega arith)
-bytes_one Tolerant (stop.Newline n) l = refl
-bytes_one Tolerant (stop.Open n) l = refl
+bytes_said s Strict e h = absurd (omega arith)
+bytes_said s Tolerant (stop.Over n) h = absurd (omega arith)
+bytes_said s Tolerant (stop.Closed n) h = absurd (omega arith)
+bytes_said s Tolerant (stop.Newline n) h = refl
+bytes_said s Tolerant (stop.Open n) h = refl
 
-pub stop_small : (e : Stop) → stop_reason e ≤ last_reason
-unfolding stop_reason
-stop_small (stop.Over n) = lit≤ tt
-stop_small (stop.Closed n) = lit≤ tt
-stop_small (stop.Newline n) = lit≤ tt
-stop_small (stop.Open n) = lit≤ tt
-
--- the classes of tokens that can have reports
-data Noting : Class → Type 0 where
-  block : Noting C.BlockComment
-  triple : Noting C.Triple
-  bytes : Noting C.Bytes
-  quote : Noting C.Quote
-
-noting : (m : Mode) (limit : ℕ) (s : List ℕ) (k : Class) → 0 < length (lexer.notes_by k m limit s) → Noting k
-unfolding lexer.notes_by
-noting m limit s C.Newline h = absurd (omega arith)
-noting m limit s C.LineComment h = absurd (omega arith)
-noting m limit s C.BlockComment h = block
-noting m limit s C.Triple h = triple
-noting m limit s C.Quote h = quote
-noting m limit s C.Bytes h = bytes
-noting m limit s (C.Single k) h = absurd (omega arith)
-noting m limit s C.Directive h = absurd (omega arith)
-noting m limit s C.Number h = absurd (omega arith)
-noting m limit s C.Name h = absurd (omega arith)
-noting m limit s C.Other h = absurd (omega arith)
+-- they are told by the class, where it has some
+said : (m : Mode) (limit : ℕ) (s : List ℕ) (k : Class) → class_at s ≡ k → 0 < length (lexer.notes_by k m limit s)
+    → FirstBytes (byte s 0) (byte s 1) (byte s 2) k → Said m s (lexer.notes_by k m limit s) (start_reason limit s)
+unfolding lexer.notes_by start_reason block_notes triple_notes bytes_notes quotes
+said m limit s C.BlockComment c h w = rw w.0 (open_one comment.open_comment_notes refl refl (ltb (body_end s) (length s)) m h)
+said m limit s C.Triple c h w = rw (w.0, w.1.0, w.1.1) (open_one literal.open_triple_notes refl refl (closed s) m h)
+said m limit s C.Bytes c h w = rw w.0 (bytes_said s m (bytes_stop limit 0 (drop 2 s)) h)
+said m limit s C.Quote c h w =
+    rw w
+    (by_cases (eqb (byte s 1) 34 && eqb (byte s 2) 34) (λ e. let t : class_at s ≡ C.Triple = triple_class s (rw (w, e)) in absurd cc) (λ e. rw e refl))
+said m limit s C.Newline c h w = absurd (omega arith)
+said m limit s C.LineComment c h w = absurd (omega arith)
+said m limit s (C.Single k) c h w = absurd (omega arith)
+said m limit s C.Directive c h w = absurd (omega arith)
+said m limit s C.Number c h w = absurd (omega arith)
+said m limit s C.Name c h w = absurd (omega arith)
+said m limit s C.Other c h w = absurd (omega arith)
 
 module _ {r : Reading} {limit : ℕ} {text : List ℕ} {p : Place} {room at : ℕ} (q : ReportRoom r limit text p room at) where
   abbrev rest : List ℕ
@@ -199,68 +178,39 @@ module _ {r : Reading} {limit : ℕ} {text : List ℕ} {p : Place} {room at : �
   unfolding notes_in notes_of
   not_end = not_empty (λ (k : ℕ). length (pick (eqb k 0) [] (lexer.notes_by (class_at rest) (mode_of r) limit rest))) rest refl q.some
 
-  pub notes_in_text : p.offset < length text
-  notes_in_text = omega (arith, not_end, length-drop p.offset text)
-
   notes_by_lem : notes_in r limit rest ≡ lexer.notes_by (class_at rest) (mode_of r) limit rest
   unfolding notes_in notes_of
   notes_by_lem = rw (ne_eqb (length rest) 0 (λ z. absurd (omega (arith, z, not_end))))
 
-  some_by : (k : Class) → class_at rest ≡ k → 0 < length (lexer.notes_by k (mode_of r) limit rest)
-  some_by k e = rw (← e, ← notes_by_lem) q.some
+  module _ {o : Option Reason} (e : o ≡ start_reason limit (take (length text - p.offset) rest)) where
+    said_here : Said (mode_of r) rest (notes_in r limit rest) o
+    said_here = rw (e, rest_is, notes_by_lem) (said (mode_of r) limit rest (class_at rest) refl (rw notes_by_lem at q.some) (first_bytes_at rest))
 
-  -- the class, by the bytes at the front
-  record Front (k : Class) : Type 0 where
-    slash : byte rest 0 ≡ 47 → k ≡ C.BlockComment
-    letter : byte rest 0 ≡ 98 → k ≡ C.Bytes
-    other : (byte rest 0 ≡ 47 → ⊥) → (byte rest 0 ≡ 98 → ⊥) → quotes rest ≡ false → k ≡ C.Quote
+  -- one report at the token's start
+  module _ {k : Reason} (e : Some k ≡ start_reason limit (take (length text - p.offset) rest)) where
+    pub one_fits : (at + report_width ≤ room) × ReportFits (report_at p k 0)
+    one_fits =
+        let w = q.walkable in (
+          omega (arith, q.fits, notes_length text p.offset (notes_in r limit rest), ap length (said_here e)),
+          report_fits text p.offset p k 0 w.true_place w.inside w.short (omega arith),
+        )
 
-  front : (k : Class) → Noting k → FirstBytes (byte rest 0) (byte rest 1) (byte rest 2) k → Front k
-  unfolding quotes
-  front C.BlockComment block w =
-      record { slash = λ a. refl; letter = λ a. absurd (omega (arith, a, w.0)); other = λ a b z. absurd (a w.0) }
-  front C.Triple triple w =
-      record {
-        slash = λ a. absurd (omega (arith, a, w.0));
-        letter = λ a. absurd (omega (arith, a, w.0));
-        other = λ a b z. true_false (quotes rest) (rw (w.0, w.1.0, w.1.1)) z;
-      }
-  front C.Bytes bytes w = record { slash = λ a. absurd (omega (arith, a, w.0)); letter = λ a. refl; other = λ a b z. absurd (b w.0) }
-  front C.Quote quote w =
-      record { slash = λ a. absurd (omega (arith, a, w)); letter = λ a. absurd (omega (arith, a, w)); other = λ a b z. refl }
-  front C.Newline n w = elim n [ ]
-  front C.LineComment n w = elim n [ ]
-  front (C.Single k) n w = elim n [ ]
-  front C.Directive n w = elim n [ ]
-  front C.Number n w = elim n [ ]
-  front C.Name n w = elim n [ ]
-  front C.Other n w = elim n [ ]
+    pub one_numbers : notes_numbers text p.offset (notes_in r limit rest) ≡ report_numbers (report_at p k 0)
+    unfolding notes_numbers report_of
+    one_numbers =
+        rw (said_here e, add-zero p.offset) (ap (λ (x : Place). report_numbers (report_at x k 0)) (sym q.walkable.true_place))
 
-  front_is : Front (class_at rest)
-  front_is = front (class_at rest) (noting (mode_of r) limit rest (class_at rest) (some_by (class_at rest) refl)) (first_bytes_at rest)
+  -- or those of a string of one line
+  module _ (e : None ≡ start_reason limit (take (length text - p.offset) rest)) where
+    pub string_fits : {out : List ℤ} → length out ≡ room → NotesFit (mode_of r) text p out at
+    string_fits l =
+        let w = q.walkable in
+        record {
+          true_place = w.true_place;
+          inside = omega (arith, not_end, length-drop p.offset text);
+          short = w.short;
+          room = rw (l, ← said_here e) q.fits;
+        }
 
-  -- room for one report, where there is one
-  pub record OneReport (reason : ℕ) : Type 0 where
-    pub is : notes_in r limit rest ≡ note_at_start reason ∷ []
-    pub room_for : at + report_width ≤ room
-
-  one : {k : ℕ} → notes_in r limit rest ≡ note_at_start k ∷ [] → OneReport k
-  one e = record { is = e; room_for = omega (arith, q.fits, notes_length text p.offset (notes_in r limit rest), ap length e) }
-
-  pub block_report : byte rest 0 ≡ 47 → OneReport reasons.open_block_comment
-  unfolding lexer.notes_by
-  block_report a = let z = front_is.slash a in one (notes_by_lem ∙ rw z (block_one (mode_of r) rest (some_by C.BlockComment z)))
-
-  pub triple_report : quotes rest ≡ true → OneReport reasons.open_triple_string
-  unfolding lexer.notes_by
-  triple_report a = let z = triple_class rest a in one (notes_by_lem ∙ rw z (triple_one (mode_of r) rest (some_by C.Triple z)))
-
-  pub bytes_report : {k : ℕ} → k ≡ stop_reason (bytes_stop limit 0 (drop 2 rest)) → byte rest 0 ≡ 98 → OneReport k
-  unfolding lexer.notes_by bytes_notes
-  bytes_report e a =
-      let z = front_is.letter a in
-      rw e (one (notes_by_lem ∙ rw z (bytes_one (mode_of r) (bytes_stop limit 0 (drop 2 rest)) (some_by C.Bytes z))))
-
-  pub quote_report : (byte rest 0 ≡ 47 → ⊥) → (byte rest 0 ≡ 98 → ⊥) → quotes rest ≡ false → notes_in r limit rest ≡ string_notes (mode_of r) rest
-  unfolding lexer.notes_by
-  quote_report a b c = notes_by_lem ∙ rw (front_is.other a b c)
+    pub string_said : notes_in r limit rest ≡ string_notes (mode_of r) rest
+    string_said = said_here e

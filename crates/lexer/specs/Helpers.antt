@@ -9,14 +9,19 @@ use Rattle.token.specs.Helpers.{is_newline, on_one_line, Flat, Walkable}
 use Rattle.token.specs.declared.kind.TokenKind.{TokenKind}
 use Rattle.token.specs.declared.kind.TokenKind.TheVariants as K
 use Rattle.token.specs.declared.place.Place.{Place}
+use Rattle.token.specs.declared.reason.Reason.{Reason}
+use Rattle.token.specs.declared.reason.Reason.TheVariants as R
 use Rattle.lexeme.specs.Lexeme.{whole, bare}
 use Rattle.lexeme.specs.Helpers.{notes_numbers}
 use Rattle.lexeme.specs.declared.Lexeme.{Lexeme}
+use Rattle.scan.specs.Bytes.{bytes_stop}
+use Rattle.scan.specs.Helpers.{stop_reason}
+use Rattle.triple_strings.specs.Triple.{quotes}
 use Rattle.lexer.specs.Reading.{lexeme_in, string_in, notes_in}
 use Rattle.lexer.specs.declared.reading.Reading.{Reading}
 
 -- Types that other files explain: `TokenKind` in token/specs/Kind.antt; `Place` in token/specs/Place.antt; `Lexeme` in lexeme/specs/Lexeme.antt;
--- `Reading` in Reading.antt.
+-- `Reason` in token/specs/Reason.antt; `Reading` in Reading.antt.
 
 -- the kind of a token of one byte
 unfoldable pub single_of : ℕ → Option TokenKind
@@ -38,6 +43,12 @@ mark_of a = pick (eqb a (code "\n")) (Some K.Newline) (single_of a)
 -- the token of a mark: a newline has no value, any other mark is its own
 unfoldable pub mark_lexeme : TokenKind → Lexeme
 mark_lexeme k = pick (is_newline k) (bare k 1) (whole k 1)
+
+-- the reason of the one report of a token, at its start, where it is no string of one line
+unfoldable pub start_reason : ℕ → List ℕ → Option Reason
+start_reason limit s =
+    pick (eqb (byte s 0) (code "/")) (Some R.OpenBlockComment)
+    (pick (eqb (byte s 0) (code "b")) (stop_reason (bytes_stop limit 0 (drop 2 s))) (pick (quotes s) (Some R.OpenTripleString) None))
 
 -- where a quote stands at the front, the whole is UTF8-octets, as the rest of a well-formed text from a quote on is
 abbrev pub FromQuote : List ℕ → Type 0

@@ -15,6 +15,7 @@ use lexeme::Lexeme;
 use scan::run::Blank;
 use token::kind::TokenKind;
 use token::place::{Place, walk};
+use token::reason::Reason;
 
 // A token relative to its start, and where it starts.
 #[derive(Clone, Copy)]
@@ -28,7 +29,7 @@ pub struct Found {
 #[derive(Clone, Copy)]
 pub struct Token {
     pub kind: TokenKind,
-    pub reason: usize,
+    pub reason: Option<Reason>,
     pub detail: usize,
     pub start: Place,
     pub end: Place,

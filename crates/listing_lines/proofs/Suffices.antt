@@ -11,6 +11,7 @@ use borrow.Author.Tests.{le-ltb}
 use Rattle.base.specs.Buffers.{overlay}
 use Rattle.limits.specs.Limits.{max_message_size, max_bytes_literal_length}
 use Rattle.token.specs.Kind.{kind_number}
+use Rattle.token.specs.Reason.{number_of}
 use Rattle.token.specs.Layout.{record_width, report_width}
 use Rattle.token.proofs.KindNumbers.{number_le}
 use Rattle.utf8.specs.Check.{check_of}
@@ -27,7 +28,7 @@ use Rattle.reading.specs.Answers.{read_text_answer}
 use Rattle.reading.specs.Passes.{Room}
 use Rattle.reading.specs.declared.counts.Counts.{Counts}
 use Rattle.reading.specs.declared.refusal.Refusal.TheVariants.{NotUtf8}
-use Rattle.reading.proofs.NextToken.{Read, start_bounded}
+use Rattle.reading.proofs.NextToken.{reason_in, Read, start_bounded}
 use Rattle.reading.proofs.From.{by_each}
 use Rattle.reading.proofs.Fits.{tokens_fit, suffice_room}
 use Rattle.reading.proofs.Refusals.{room_answer}
@@ -54,7 +55,7 @@ module _ (text : List ℕ) (h : length text ≤ 8192) where
       let c = four t.start.line (omega arith) in
       let d = four t.start.column (omega arith) in
       let e = two (kind_number t.kind) (omega (arith, number_le t.kind)) in
-      let f = two t.reason (omega arith) in
+      let f = two (number_of t.reason) (omega (arith, reason_in t.reason)) in
       let g = number_most t.nanos in
       simp length-append (omega arith)
 

@@ -22,6 +22,7 @@ use reading::judge::judge;
 use reading::text::read_text;
 use token::layout::RECORD_WIDTH;
 use token::place::Place;
+use token::reason::number_of;
 
 // The out buffer is shorter than the listing.
 #[derive(Clone, Copy, PartialEq, Eq, Debug)]
@@ -46,7 +47,7 @@ fn token_numbers(t: Token) -> [i64; 7]
         t.start.line as i64,
         t.start.column as i64,
         t.kind.number() as i64,
-        t.reason as i64,
+        number_of(t.reason) as i64,
         t.nanos,
     ]
 }

@@ -8,15 +8,19 @@ use native.Mathlib.Omega.{arith}
 use lib.Dec.{eqb}
 use lib.IntN.{ℤ}
 use lib.ListN.{length, take, drop, length-drop}
+use Rattle.std.specs.Prelude.{Option, Some, None}
 use Rattle.base.specs.Bytes.{byte, AreBytes}
 use Rattle.base.specs.Classes.{is_space}
 use Rattle.base.proofs.Tests.{pick_le}
 use Rattle.go_duration.specs.Written.{SumOfParts}
 use Rattle.token.specs.Kind.{kind_number, duration_number, is_string}
 use Rattle.token.specs.Place.{place_at}
+use Rattle.token.specs.Reason.{number_of}
 use Rattle.token.specs.Helpers.{Bounded, last_reason}
 use Rattle.token.specs.declared.layout.Report.{Report}
+use Rattle.token.specs.declared.reason.Reason.{Reason}
 use Rattle.token.proofs.KindNumbers.{IsEof}
+use Rattle.token.proofs.ReasonNumbers.{reason_le}
 use Rattle.token.proofs.Places.{place_offset, place_bounded, offset_put}
 use Rattle.lexeme.specs.Lexeme.{Note}
 use Rattle.lexeme.specs.Reports.{report_of}
@@ -43,6 +47,11 @@ reports_at m limit text t = map (report_of text t.start.offset) (notes_at m limi
 abbrev pub numbers_at : Reading → ℕ → List ℕ → Token → List ℤ
 numbers_at m limit text t = notes_numbers text t.start.offset (notes_at m limit text t)
 
+-- the number of a token's reason is at most the last
+pub reason_in : (r : Option Reason) → number_of r ≤ last_reason
+reason_in None = omega arith
+reason_in (Some r) = reason_le r
+
 -- what is known of the token t after the offset `at`
 pub record Read (m : Reading) (limit : ℕ) (text : List ℕ) (at : ℕ) (t : Token) : Type 0 where
   pub after : at ≤ t.start.offset
@@ -59,7 +68,6 @@ pub record Read (m : Reading) (limit : ℕ) (text : List ℕ) (at : ℕ) (t : To
   pub precision_in : t.precision ≤ t.end.offset
   pub digits_in : t.digits ≤ t.end.offset
   pub reports_in : t.start.offset + t.reports ≤ t.end.offset
-  pub reason_in : t.reason ≤ last_reason
   pub detail_in : AreBytes text → t.detail < 0x200000
   pub ends : t.start.offset + (lexeme_in m limit (drop t.start.offset text)).len ≡ t.end.offset
   pub string : length (string_at m text t) ≡ string_size t.kind t.size
@@ -117,7 +125,6 @@ module _ (m : Reading) (limit : ℕ) (text : List ℕ) (at : ℕ) (h : at ≤ le
           precision_in = pick_le (eqb f.lexeme.digits 0) (omega arith) (omega (arith, x.precision_in));
           digits_in = omega (arith, x.precision_in);
           reports_in = omega (arith, x.reports_in);
-          reason_in = x.reason_in;
           detail_in = λ bytes. x.detail_in (bytes_drop text f.start bytes);
           ends = found_ends;
           string = x.string_counted;

@@ -29,7 +29,7 @@ use Rattle.reading.specs.Buffers.{record_of, records_of, strings_of, reports_of,
 use Rattle.reading.specs.Passes.{RoomIn, StoredIn, TokenRoom, TokenPut, SameBuffers}
 use Rattle.reading.specs.declared.counts.Counts.{Counts}
 use Rattle.reading.specs.declared.put.Buffers.{Buffers}
-use Rattle.reading.proofs.NextToken.{string_at, notes_at, numbers_at, Read, start_bounded, string_few, reads, end_offset}
+use Rattle.reading.proofs.NextToken.{string_at, notes_at, numbers_at, reason_in, Read, start_bounded, string_few, reads, end_offset}
 use Rattle.reading.proofs.From.{from_eof, from_more, from_head}
 use Rattle.reading.proofs.Rows.{records_length, records_more, strings_more, strings_length, reports_length, reports_more}
 
@@ -62,6 +62,7 @@ module _ (m : Reading) (limit : ℕ) (text : List ℕ) (at : ℕ) (h : at ≤ le
       let b = start_bounded r in
       let k = number_le t.kind in
       let d = r.detail_in bytes in
+      let n = reason_in t.reason in
       let v : Fits63 (record_of p t).value = pick_case Fits63 (is_string t.kind) (λ b. omega arith) (λ b. omega arith) in
       search arith
 

@@ -13,6 +13,7 @@ use lexer::put::{put_reports, put_string};
 use lexer::reading::{Reading, Settings};
 use token::layout::{RECORD_WIDTH, REPORT_WIDTH, Record};
 use token::place::Place;
+use token::reason::number_of;
 
 // Stores the record of a token whose string starts at `at`: there is a String's value, any other's is in the text.
 #[inline(always)]
@@ -22,7 +23,7 @@ fn put_record(t: Token, at: usize, out: &mut [i64], i: usize)
 {
     let record = Record {
         kind: t.kind.number(),
-        reason: t.reason,
+        reason: number_of(t.reason),
         detail: t.detail,
         start: t.start.offset,
         end: t.end.offset,

@@ -1,8 +1,19 @@
--- Helper definitions, for proofs and inner contracts alone: numbers that fit an answer.
-use Rattle.std.specs.Prelude.{List, [], ◌∷◌, ℕ, ◌<◌, Option, Some, None}
+-- Helper definitions, for proofs and inner contracts alone: the numbers of an answer, and numbers that fit one.
+use Rattle.std.specs.Prelude.{List, [], ◌∷◌, ℕ, ◌<◌, get_or, Option, Some, None}
 use Rattle.rfc3339.specs.declared.parse.Instant.{Instant}
 
 -- Types that other files explain: `Instant` in rfc3339/specs/Instant.antt.
+
+-- the first six of some numbers, with zeros where there are fewer
+abbrev pub padded : List ℕ → List ℕ
+padded vs = get_or vs 0 0 ∷ get_or vs 1 0 ∷ get_or vs 2 0 ∷ get_or vs 3 0 ∷ get_or vs 4 0 ∷ get_or vs 5 0 ∷ []
+
+-- the values of a call that gives one number, and of a refusal that gives none
+abbrev pub one_of : ℕ → List ℕ
+one_of n = n ∷ []
+
+abbrev pub no_values : {E : Type 0} → E → List ℕ
+no_values e = []
 
 -- a signed 64-bit number can hold each
 abbrev pub Fit63 : List ℕ → Type 0

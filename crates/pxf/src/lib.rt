@@ -2,7 +2,6 @@
 // of `answer`; but for `pxf_interface`, which gives the interface's own number, and `pxf_byte_kind`, which gives an entry of a table.
 #![tactic(auto)]
 
-mod answer;
 pub mod interface;
 pub mod kinds;
 pub mod suggestions;

@@ -7,7 +7,7 @@ ghost use Rattle.reading.specs.Answers.{answer_values, counts_values, token_valu
 ghost use Rattle.reading.specs.Refusals.{refusal_values};
 ghost use Rattle.pxf.specs.Texts.{six_of};
 ghost use Rattle.pxf.specs.Timestamps.{instant_numbers};
-ghost use Rattle.pxf.specs.Helpers.{Fit63, instant_nanos};
+ghost use Rattle.pxf.specs.Helpers.{padded, one_of, no_values, Fit63, instant_nanos};
 
 use base::answer::Numbered;
 use reading::counts::Counts;
@@ -15,71 +15,98 @@ use reading::one::OneToken;
 use reading::refusal::Refusal;
 use rfc3339::parse::Instant;
 use token::place::Place;
+use token_file::read::ReadRefusal;
+use token_file::write::WriteRefusal;
 
-// What a call gives, or why it is refused, as the numbers of an answer.
+// What a call gives, or why it is refused, as the numbers of an answer. Each type has an `impl` of its own: one for all refusals without a value could
+// overlap those of types that other crates declare.
 pub trait Values: Copy {
     ghost values_of: { Self → List ℕ };
 
     // Its values, and zeros.
-    fn six(self) -> [i64; 6]
-        requires { Fit63 (values_of self) }
-        ensures { result ≡ six_of (values_of self) };
+    fn six(self) -> [usize; 6]
+        ensures { result ≡ padded (values_of self) };
+}
+
+impl Values for usize {
+    ghost values_of = { one_of };
+
+    fn six(self) -> [usize; 6] {
+        [self, 0, 0, 0, 0, 0]
+    }
 }
 
 impl Values for Counts {
     ghost values_of = { counts_values };
 
-    fn six(self) -> [i64; 6] {
-        [
-            self.tokens as i64,
-            self.strings as i64,
-            self.reports as i64,
-            0,
-            0,
-            0,
-        ]
+    fn six(self) -> [usize; 6] {
+        [self.tokens, self.strings, self.reports, 0, 0, 0]
     }
 }
 
 impl Values for OneToken {
     ghost values_of = { token_values };
 
-    fn six(self) -> [i64; 6] {
-        [
-            1,
-            self.strings as i64,
-            self.reports as i64,
-            self.end.offset as i64,
-            self.end.line as i64,
-            self.end.column as i64,
-        ]
+    fn six(self) -> [usize; 6] {
+        let Place {
+            offset,
+            line,
+            column,
+        } = self.end;
+        [1, self.strings, self.reports, offset, line, column]
     }
 }
 
 impl Values for Place {
     ghost values_of = { place_values };
 
-    fn six(self) -> [i64; 6] {
-        [
-            self.offset as i64,
-            self.line as i64,
-            self.column as i64,
-            0,
-            0,
-            0,
-        ]
+    fn six(self) -> [usize; 6] {
+        [self.offset, self.line, self.column, 0, 0, 0]
     }
 }
 
 impl Values for Refusal {
     ghost values_of = { refusal_values };
 
-    fn six(self) -> [i64; 6] {
+    fn six(self) -> [usize; 6] {
         match self {
-            Refusal::NotUtf8(at) => [at as i64, 0, 0, 0, 0, 0],
+            Refusal::NotUtf8(at) => [at, 0, 0, 0, 0, 0],
             _ => [0; 6],
         }
     }
+}
+
+impl Values for suggest::call::Refusal {
+    ghost values_of = { no_values };
+
+    fn six(self) -> [usize; 6] {
+        [0; 6]
+    }
+}
+
+impl Values for WriteRefusal {
+    ghost values_of = { no_values };
+
+    fn six(self) -> [usize; 6] {
+        [0; 6]
+    }
+}
+
+impl Values for ReadRefusal {
+    ghost values_of = { no_values };
+
+    fn six(self) -> [usize; 6] {
+        [0; 6]
+    }
+}
+
+// Sets the six numbers of an answer. The casts lose nothing, as is required, where `try_from` would want a number for its error.
+fn set(answer: &mut [i64; 6], values: [usize; 6])
+    requires { Fit63 values }
+    ensures { answer.new ≡ six_of values }
+{
+    let [a, b, c, d, e, f] = values;
+    *answer = [a as i64, b as i64, c as i64, d as i64, e as i64, f as i64];
 }
 
 // Sets the six numbers of an answer, and gives its number.
@@ -89,17 +116,17 @@ pub fn give<T: Values, E: Values + Numbered>(r: Result<T, E>, answer: &mut [i64;
 {
     match r {
         Ok(given) => {
-            *answer = given.six();
+            set(answer, given.six());
             0
         }
         Err(refusal) => {
-            *answer = refusal.six();
+            set(answer, refusal.six());
             refusal.number()
         }
     }
 }
 
-// The values of an instant.
+// The values of an instant. Its seconds may lie below 0, so that it is no `Values`.
 pub fn of_instant(r: Option<Instant>) -> [i64; 6]
     requires { instant_nanos r < 0x8000000000000000 }
     ensures { result ≡ instant_numbers r }

@@ -1,6 +1,6 @@
 -- For `see_front`, `see_around` and `try_offset`: a text that is cut at an offset is its two parts, and what is known of the surroundings
 -- of a byte holds whatever byte stands there. By the laws of `Cuts`. Assumes nothing.
-use Rattle.std.specs.Prelude.{Some}
+use Rattle.std.specs.Prelude.{Option, Some, None}
 use mathlib.Core.Path.{◌≡◌, sym, ◌∙◌}
 use mathlib.Core.Bool.{true}
 use mathlib.Core.List.{List}
@@ -8,21 +8,22 @@ use Prim.Native.Nat.{ℕ, ◌-◌, ◌<◌}
 use native.Mathlib.Nat.{add-zero}
 use native.Mathlib.Omega.{arith}
 use lib.IntN.{pos}
-use lib.ListN.{length, set, take, drop, take-append-drop, length-set}
+use lib.ListN.{length, set, take, drop, take-append-drop}
 use lib.Seq.{length-take-le, get_or-take, get_or-drop, get_or-set_other, take-set-le, drop-set-lt}
 use Rattle.base.specs.Bytes.{byte}
 use Rattle.base.specs.Classes.{is_digit, is_lower_alpha}
 use Rattle.base.proofs.Tests.{in_text, no_digit}
 use Rattle.suggest.specs.Helpers.{seen_of, is_minus, join_seen, Seam}
-use Rattle.suggest.specs.Helpers.{Cut, Surrounds}
+use Rattle.suggest.specs.Helpers.{Before, Behind, Cut, Surrounds}
 use Rattle.suggest.specs.declared.pieces.Around.{Around}
+use Rattle.suggest.specs.declared.pieces.Side.{Side}
 use Rattle.suggest.proofs.Cuts.{cut_seen, cut_minus}
 
 module _ {text : List ℕ} {p : ℕ} (s : Seam text p) where
-  seam_in : p < length text
+  pub seam_in : p < length text
   seam_in = in_text is_digit text p no_digit s.digit
 
-  long : length (take p text) ≡ p
+  pub long : length (take p text) ≡ p
   long = length-take-le p text (omega (arith, seam_in))
 
   some : 0 < length (take p text)
@@ -55,24 +56,24 @@ seam_set {run} {p} i b m n s =
 
 -- and so do the surroundings of that byte
 pub cut_set : {run : List ℕ} {i : ℕ} {a : Around} (b : ℕ) → Surrounds run i a → Cut (set run i b) a
-cut_set {run} {i} {a} b w =
-    let c = w.cut in
-    record {
-      ordered = c.ordered;
-      inside = rw length-set c.inside;
-      before = λ h.
-          let d = c.before h in
-          let f = w.first h in
-          record {
-            seam = seam_set i b (λ e. omega arith) (λ e. omega arith) d.seam;
-            known = rw (take-set-le a.start run i b (omega arith)) d.known;
-          };
-      behind = λ h.
-          let g : a.end < length run = rw length-set at h in
-          let d = c.behind g in
-          let f = w.last g in
-          record {
-            seam = seam_set i b (λ e. omega arith) (λ e. omega arith) d.seam;
-            known = rw (drop-set-lt a.end run i b (omega arith)) d.known;
-          };
-    }
+cut_set {run} {i} {a} b w = record { at = i; surrounds = record { before = front a.before w.before; behind = back a.behind w.behind } }
+  where
+    front : (s : Option Side) → Before run i s → Before (set run i b) i s
+    front None h = tt
+    front (Some s) h = (
+      h.0,
+      record {
+        seam = seam_set i b (λ e. omega arith) (λ e. omega arith) h.1.seam;
+        known = rw (take-set-le s.cut run i b (omega arith)) h.1.known;
+      },
+    )
+
+    back : (s : Option Side) → Behind run i s → Behind (set run i b) i s
+    back None h = tt
+    back (Some s) h = (
+      h.0,
+      record {
+        seam = seam_set i b (λ e. omega arith) (λ e. omega arith) h.1.seam;
+        known = rw (drop-set-lt s.cut run i b (omega arith)) h.1.known;
+      },
+    )

@@ -19,8 +19,9 @@ use Rattle.suggestion_list.specs.declared.Suggestion.{Suggestion}
 use Rattle.suggest.specs.Calls.{longest_run}
 use Rattle.suggest.specs.Suggestions.{seen_in, first_byte, byte_count, entry_by, at_offset, suggestions_of}
 use Rattle.suggest.specs.declared.pieces.Around.{Around}
+use Rattle.suggest.specs.declared.pieces.Side.{Side}
 
--- Types of the code (src/pieces.rt). `Around`, a piece of a text from `start` to `end`, with what is seen before it, `head`, and behind it, `tail`.
+-- Types of the code (src/pieces.rt). `Side`, what is `seen` on one side of a `cut`; `Around`, what is so `before` and `behind` the piece of a text that changes.
 -- Types that other files explain: `Lexeme` in lexeme/specs/Lexeme.antt; `Suggestion` in suggestion_list/specs/Order.antt.
 
 -- ---- what is seen, without a reading
@@ -68,48 +69,43 @@ pub record Seam (text : List ℕ) (p : ℕ) : Type 0 where
   pub letter : is_lower_alpha (byte text (p - 1)) ≡ true
   pub digit : is_digit (byte text p) ≡ true
 
--- a cut before the byte at i, or 0
-abbrev pub CutBefore : List ℕ → ℕ → ℕ → Type 0
-CutBefore run i r = 0 < r → (r < i) × Seam run r
-
--- a cut behind it, or the end
-pub record CutAfter (run : List ℕ) (i r : ℕ) : Type 0 where
-  pub behind : i < r
-  pub inside : r ≤ length run
-  pub seam : r < length run → (i + 1 < r) × Seam run r
-
 -- an answer that is false only where no zero is seen under `-`
 abbrev pub MinusZero : Bool → Option ℤ → Bool → Type 0
 MinusZero neg seen r = r ≡ false → neg ≡ true → seen ≡ Some (pos 0) → ⊥
 
 -- what is seen before a cut
-pub record HeadSeen (text : List ℕ) (start : ℕ) (head : Option ℤ) : Type 0 where
-  pub seam : Seam text start
-  pub known : head ≡ seen_of (take start text)
+pub record HeadSeen (text : List ℕ) (s : Side) : Type 0 where
+  pub seam : Seam text s.cut
+  pub known : s.seen ≡ seen_of (take s.cut text)
 
 -- what is seen behind a cut
-pub record TailSeen (text : List ℕ) (end : ℕ) (tail : Option ℤ) : Type 0 where
-  pub seam : Seam text end
-  pub known : tail ≡ seen_of (drop end text)
+pub record TailSeen (text : List ℕ) (s : Side) : Type 0 where
+  pub seam : Seam text s.cut
+  pub known : s.seen ≡ seen_of (drop s.cut text)
 
--- a text of which `head` is seen before `start`
-pub record Front (text : List ℕ) (start : ℕ) (head : Option ℤ) : Type 0 where
-  pub inside : start ≤ length text
-  pub before : 0 < start → HeadSeen text start head
+-- a text with what is seen before a cut, if there is one
+abbrev pub Front : List ℕ → Option Side → Type 0
+Front text None = Unit {0}
+Front text (Some s) = HeadSeen text s
 
--- a text with a piece of which the surroundings are known
+-- what is seen before a cut that is not next to the byte at i, if there is one, and behind such a cut
+abbrev pub Before : List ℕ → ℕ → Option Side → Type 0
+Before text i None = Unit {0}
+Before text i (Some s) = (s.cut < i) × HeadSeen text s
+
+abbrev pub Behind : List ℕ → ℕ → Option Side → Type 0
+Behind text i None = Unit {0}
+Behind text i (Some s) = (i + 1 < s.cut) × TailSeen text s
+
+-- both, as they surround the byte at i
+pub record Surrounds (text : List ℕ) (i : ℕ) (a : Around) : Type 0 where
+  pub before : Before text i a.before
+  pub behind : Behind text i a.behind
+
+-- a text of which the surroundings of some byte are known
 pub record Cut (text : List ℕ) (a : Around) : Type 0 where
-  pub ordered : a.start < a.end
-  pub inside : a.end ≤ length text
-  pub before : 0 < a.start → HeadSeen text a.start a.head
-  pub behind : a.end < length text → TailSeen text a.end a.tail
-
--- and the byte at i is in the piece, not next to a cut
-pub record Surrounds (run : List ℕ) (i : ℕ) (a : Around) : Type 0 where
-  pub cut : Cut run a
-  pub first : 0 < a.start → a.start < i
-  pub last : a.end < length run → i + 1 < a.end
-  pub inside : i < a.end
+  pub at : ℕ
+  pub surrounds : Surrounds text at a
 
 -- ---- the list while it is filled
 

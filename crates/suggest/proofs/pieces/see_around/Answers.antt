@@ -1,19 +1,18 @@
 -- `see_around` sees a text by what stands before its last cut and behind it, but for a zero under `-`. Assumes nothing.
-use mathlib.Core.Path.{◌∙◌}
-use native.Mathlib.Omega.{arith}
-use Rattle.suggest.specs.Helpers.{TailSeen}
-use Rattle.suggest.proofs.Seams.{seam_seen}
-use Rattle.suggest.proofs.pieces.see_around.Goals.{Else-end-text}
+use mathlib.Core.Path.{sym, ◌∙◌}
+use Rattle.std.specs.Prelude.{Some}
+use Rattle.suggest.specs.Helpers.{Behind}
+use Rattle.suggest.proofs.Seams.{long, seam_seen}
 use Rattle.suggest.proofs.pieces.see_around.Goals as goal
 
--- past the first test something stands behind the piece
-behind : (c : Else-end-text) → let a = c.args in TailSeen a.text.now a.a.end a.a.tail
-behind c = c.requires.behind (omega (arith, c.if-end-text.false, c.requires.inside))
+pub slice_bounds-see_front-end : goal.slice_bounds-see_front-end
+slice_bounds-see_front-end c =
+    let t : Behind c.args.text.now c.requires.at (Some c.in-Some.field-0) = rw c.in-Some.is at c.requires.surrounds.behind in
+    rw c.in-Some.field-0-is (sym (long t.1.seam))
 
 pub returns : goal.returns
 returns c =
-    let at = goal.at.returns c in
-    let f = c.see_front-front.ensures in
-    let t = (behind at.Else-end-text) in
-    c.join.ensures ∙ rw (c.is_minus-neg.ensures, f, t.known)
-    (seam_seen t.seam (λ n e. c.is_minus_zero.ensures c.if-is_minus_zero.false (c.is_minus-neg.ensures ∙ n) (f ∙ e)))
+    let f = rw c.in-Some.field-0-is at c.see_front-front.ensures in
+    let t : Behind c.args.text.now c.requires.at (Some c.in-Some.field-0) = rw c.in-Some.is at c.requires.surrounds.behind in
+    c.join.ensures ∙ rw (c.is_minus-neg.ensures, f, c.in-Some.is, t.1.known)
+    (seam_seen t.1.seam (λ n e. c.is_minus_zero.ensures c.if-is_minus_zero.false (c.is_minus-neg.ensures ∙ n) (f ∙ e)))

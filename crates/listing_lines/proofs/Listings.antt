@@ -66,11 +66,11 @@ module _ {text : List ℕ} {T : List ℤ} {S : List ℕ} {R : List ℤ} {r : Res
         go (Err i) x q = cc
         go (Ok i) x q = refl
 
-    pub tokens_listed : {O : List ℕ} {size : ℕ} {O' : List ℕ} → size ≡ lines_size text → lines_size text ≤ length O → O' ≡ sets O 0 (row_lines c.tokens T')
-        → Lists text T S R O (Ok size) T' S' R' O'
-    tokens_listed {O} q h o =
+    pub tokens_listed : {O : List ℕ} {n : ℕ} {O' : List ℕ} → lines_size text ≤ length O → n ≡ length (row_lines c.tokens T')
+        → O' ≡ sets O 0 (row_lines c.tokens T') → Lists text T S R O (Ok n) T' S' R' O'
+    tokens_listed {O} h q o =
         let z : listing_of text r ≡ token_lines text = rw e in
-        lists h (whole_fills (token_lines text) O (q ∙ size_is) (rw size_is at h) (o ∙ ap (sets O 0) rows_are)) (sym z)
+        lists h (whole_fills (token_lines text) O (q ∙ ap length rows_are) (rw size_is at h) (o ∙ ap (sets O 0) rows_are)) (sym z)
 
   pub refusal_listed : {x : Refusal} → r ≡ Err x → (number : ℕ) → number ≡ refusal_number x → {O : List ℕ} → lines_size text ≤ length O
       → {l : Result ℕ OutShort} {O' : List ℕ} → Fills (refused_line number) O l O' → Lists text T S R O l T' S' R' O'

@@ -1,7 +1,7 @@
 // The listing of a text, written to a lent buffer: one token a line, or `refused` and the number.
 #![tactic(auto)]
 
-ghost use Rattle.std.specs.Prelude.{◌≡◌, ◌+◌, ◌*◌, ◌≤◌, length, drop};
+ghost use Rattle.std.specs.Prelude.{◌≡◌, ◌+◌, ◌*◌, ◌≤◌, leb, length, drop};
 ghost use Rattle.std.proofs.lemmas.List.Edits.{sets};
 ghost use Rattle.limits.specs.Limits.{max_message_size, max_bytes_literal_length};
 ghost use Rattle.token.specs.Layout.{record_width};
@@ -105,34 +105,35 @@ fn lines_size(text: &[u8]) -> usize
     }
 }
 
-// The same of any text: 0 where it is too long or not UTF-8.
+// Whether a buffer of so many bytes holds the lines of a text's tokens. One that is too long or not UTF-8 has no lines.
 #[tactic(auto, unfolding(crate::specs::Listing::lines_size))]
-fn listing_size(text: &[u8]) -> usize
-    ensures { result ≡ lines_size text.now }
+fn holds_lines(room: usize, text: &[u8]) -> bool
+    ensures { result ≡ leb (lines_size text.now) room }
 {
     match judge(text) {
-        Ok(()) => lines_size(text),
-        Err(_) => 0,
+        Ok(()) => lines_size(text) <= room,
+        Err(_) => true,
     }
 }
 
-// Writes the lines of the first `count` records from the buffer's start.
-fn put_lines(tokens: &[i64], count: usize, out: &mut [u8])
+// Writes the lines of the first `count` records from the buffer's start, and gives where they end.
+fn put_lines(tokens: &[i64], count: usize, out: &mut [u8]) -> usize
     requires { (count * record_width ≤ length tokens.now) × (length (row_lines count tokens.now) ≤ length out.old) }
-    ensures { out.new ≡ sets out.old 0 (row_lines count tokens.now) }
+    ensures { (result ≡ length (row_lines count tokens.now)) × (out.new ≡ sets out.old 0 (row_lines count tokens.now)) }
 {
     let (records, _) = tokens.as_chunks::<RECORD_WIDTH>();
     let mut end = 0;
     for numbers in &records[..count] {
         end = put_line(&line_numbers(numbers), out, end);
     }
+    end
 }
 
 // Writes `refused` and the number, where the buffer holds them.
 fn put_refusal(number: u8, out: &mut [u8]) -> Result<usize, OutShort>
     ensures { Fills (refused_line number) out.old result out.new }
 {
-    let z = number as i64;
+    let z = i64::from(number);
     let size = 9 + number_size(z);
     if out.len() < size {
         return Err(OutShort);
@@ -154,15 +155,11 @@ pub fn list(
 ) -> Result<usize, OutShort>
     ensures { Lists text.now tokens.old strings.old reports.old out.old result tokens.new strings.new reports.new out.new }
 {
-    let size = listing_size(text);
-    if out.len() < size {
+    if !holds_lines(out.len(), text) {
         return Err(OutShort);
     }
     match read_text(text, strictly(), tokens, strings, reports) {
-        Ok(counts) => {
-            put_lines(tokens, counts.tokens, out);
-            Ok(size)
-        }
+        Ok(counts) => Ok(put_lines(tokens, counts.tokens, out)),
         Err(refusal) => put_refusal(refusal.number(), out),
     }
 }

@@ -1,7 +1,9 @@
--- `list` measures the lines, then reads, and writes the lines of what it has read, or the refusal's. Assumes nothing.
+-- `list` tests whether the lines fit, then reads, and writes the lines of what it has read, or the refusal's. Assumes nothing.
+use mathlib.Core.Path.{sym, ◌∙◌}
 use Prim.Native.Nat.{◌≤◌}
 use native.Mathlib.Omega.{arith}
 use lib.ListN.{length}
+use borrow.Author.Tests.{leb-true, leb-false}
 use Rattle.limits.specs.Limits.{max_bytes_literal_length}
 use Rattle.lexer.specs.declared.reading.Reading.TheVariants.{Strict}
 use Rattle.reading.specs.Calls.{ReadsText}
@@ -18,10 +20,10 @@ reading c = rw (c.strictly.ensures.mode, c.strictly.ensures.limit) at c.read_tex
 
 -- the lines fit the out buffer
 room : (c : After-read_text) → let a = c.args in lines_size a.text.now ≤ length a.out.now
-room c = omega (arith, c.listing_size-size.ensures, c.if-out-size.false)
+room c = leb-true _ _ (sym c.holds_lines.ensures ∙ c.if-not-holds_lines.false)
 
-pub returns-then-out-size : goal.returns-then-out-size
-returns-then-out-size c = short_listed _ _ _ _ _ (rw c.listing_size-size.ensures at c.if-out-size.true)
+pub returns-then-not-holds_lines : goal.returns-then-not-holds_lines
+returns-then-not-holds_lines c = short_listed _ _ _ _ _ (leb-false _ _ (sym c.holds_lines.ensures ∙ c.if-not-holds_lines.true))
 
 pub put_lines-requires : goal.put_lines-requires
 put_lines-requires c =
@@ -34,7 +36,7 @@ put_lines-requires c =
 pub returns-in-Ok : goal.returns-in-Ok
 returns-in-Ok c =
     let at = goal.at.returns-in-Ok c in
-    tokens_listed (reading at.After-read_text) c.in-Ok.is c.listing_size-size.ensures (room at.After-read_text) c.put_lines.ensures
+    tokens_listed (reading at.After-read_text) c.in-Ok.is (room at.After-read_text) c.put_lines.ensures.0 c.put_lines.ensures.1
 
 pub returns-in-Err : goal.returns-in-Err
 returns-in-Err c =

@@ -1,7 +1,7 @@
 -- `put_lines` writes the lines record by record.
 use Rattle.std.proofs.Common.{◌≡◌, ◌+◌, ◌*◌, ◌<◌, length, drop, ap, arith, length-append, ◌∙◌}
 use lib.Seq.{length-take-le}
-use Rattle.base.proofs.Storings.{storing_to, storing_end}
+use Rattle.base.proofs.Storings.{storing_to, storing_reached, storing_end}
 use Rattle.token.specs.Layout.{record_width}
 use Rattle.listing_lines.specs.Lines.{line_text}
 use Rattle.listing_lines.specs.Rows.{line_at}
@@ -39,5 +39,7 @@ loop-numbers-preserved c =
 
 pub returns : goal.returns
 returns c =
+    let w = c.loop-numbers.invariant in
     let n = length-take-le c.args.count c.as_chunks.result.0.now (omega (arith, c.as_chunks.ensures.front_len, c.requires.0)) in
-    storing_end c.loop-numbers.invariant (rows_done c.args.tokens.now c.args.count c.loop-numbers.numbers-index (omega (arith, n, c.loop-numbers-test.false)))
+    let e = rows_done c.args.tokens.now c.args.count c.loop-numbers.numbers-index (omega (arith, n, c.loop-numbers-test.false)) in
+    (omega (arith, storing_reached w e), storing_end w e)

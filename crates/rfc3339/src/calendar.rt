@@ -24,7 +24,7 @@ pub fn days_in_month(year: usize, month: usize) -> usize
     ensures days { result ≡ month_length year month }
     ensures at_most { result ≤ 31 }
 {
-    MONTH_LENGTHS[is_leap(year) as usize][month - 1] as usize
+    usize::from(MONTH_LENGTHS[usize::from(is_leap(year))][month - 1])
 }
 
 // The days from 0000-01-01 to a date. Years begin in March here, so that the leap day is the last, and 400 years are 146,097 days; they are
@@ -35,7 +35,7 @@ pub fn days_from_civil(y: usize, m: usize, d: usize) -> usize
     ensures { result ≡ days_to y m d }
 {
     let late = 2 < m;
-    let year = y + 399 + (late as usize);
+    let year = y + 399 + usize::from(late);
     let month = (m + 9) % 12;
     365 * year + year / 4 - year / 100 + year / 400 + (153 * month + 2) / 5 + d - 146038
 }

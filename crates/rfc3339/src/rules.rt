@@ -20,7 +20,7 @@ fn digit(b: u8) -> usize
     ensures number { result ≡ digit_of b }
     ensures at_most { result ≤ 9 }
 {
-    (b - b'0') as usize
+    usize::from(b - b'0')
 }
 
 // The number of two digits, where it is from `least` to `most`. A timestamp calls it six times or eight; as a function of its own it made them a tenth

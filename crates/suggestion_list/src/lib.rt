@@ -43,7 +43,7 @@ fn put(list: &mut [i64], count: usize, x: Suggestion)
 {
     let at = place_for(list, count, x.nanos) * ENTRY_WIDTH;
     make_room(list, at, count * ENTRY_WIDTH);
-    base::store(list, at, &[x.nanos, x.offset as i64, x.byte as i64]);
+    base::store(list, at, &[x.nanos, x.offset as i64, i64::from(x.byte)]);
 }
 
 // The suggestions so far, in order in a lent slice of numbers as far as it has room, and how many there are.

@@ -12,5 +12,5 @@ use Rattle.suggestion_list.proofs.put.Goals as goal
 pub returns : goal.returns
 returns c = let x = c.args.x in
     let n : to_z w64 (of_z w64 x.nanos) ≡ x.nanos = to_z-of_z w64 _ (search rules) in
-    let e = rw (n, signed x.offset (omega arith), signed x.byte (omega arith)) at c.store.ensures in
+    let e = rw (n, signed x.offset (omega arith), c.from.ensures, signed x.byte (omega arith)) at c.store.ensures in
     placed x c.args.count c.place_for-at.result (rw n at c.place_for-at.ensures) c.make_room.ensures e

@@ -26,9 +26,9 @@ fn digit(b: u8) -> Option<u8>
 pub fn hex_byte(high: u8, low: u8) -> u8
     ensures { result ≡ hex_byte high low }
 {
-    let high = u16::from(digit(high).unwrap_or(16));
-    let low = u16::from(digit(low).unwrap_or(16));
-    ((high * 16 + low) % 256) as u8
+    let high = digit(high).unwrap_or(16);
+    let low = digit(low).unwrap_or(16);
+    high.wrapping_mul(16).wrapping_add(low)
 }
 
 // The number with one digit more. What is no decimal digit, or too much, is passed over.

@@ -11,7 +11,7 @@ pub trait Numbered: Copy {
         ensures { result ≡ number_of self };
 }
 
-// The number of an answer: 0 where the call is accepted.
+// The number of an answer: 0 where the call is accepted, which is the documents' own number for that.
 pub fn number<T: Copy, E: Numbered>(answer: Result<T, E>) -> u8
     ensures { result ≡ answer_number E.number_of answer }
 {
@@ -21,7 +21,7 @@ pub fn number<T: Copy, E: Numbered>(answer: Result<T, E>) -> u8
     }
 }
 
-// The count that an answer gives: 0 where the call is refused.
+// The count that an answer gives: 0 where the call is refused, as the documents want of a number that a call does not give.
 pub fn value<E: Copy>(answer: Result<usize, E>) -> usize
     ensures { result ≡ answer_value answer }
 {

@@ -1,4 +1,5 @@
 // The tests of bytes that lexer.rs has, by the table of byte kinds; but for blanks, which are none of its kinds.
+// Each test has a name and a definition of its own, and is one line by the table.
 ghost use Rattle.std.specs.Prelude.{◌≡◌};
 ghost use Rattle.base.specs.Classes.{is_digit, is_lower_alpha, is_ident_start, is_ident_part, is_duration_unit, is_space};
 ghost use Rattle.base.specs.Kinds.{begins_unit};

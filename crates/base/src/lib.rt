@@ -22,7 +22,7 @@ pub fn peek(s: &[u8], k: usize) -> u8
     s.get(k).copied().unwrap_or(0)
 }
 
-// Stores the elements of `xs` from index `at` on, one by one.
+// Stores the elements of `xs` from index `at` on, one by one: `copy_from_slice` calls the C library. An index, since one buffer is stored to at several places.
 pub fn store<T: Copy>(buf: &mut [T], at: usize, xs: &[T])
     requires { at + length xs.now ≤ length buf.old }
     ensures { buf.new ≡ sets buf.old at xs.now }

@@ -1,4 +1,5 @@
-// The ends of runs of bytes, searched a block or a window of bytes at a time.
+// The ends of runs of bytes, searched a block or a window of bytes at a time. A search goes on in the same bytes where another one ended, so each takes
+// an offset beside them.
 ghost use Rattle.std.specs.Prelude.{◌≡◌, ℕ, Bool, ◌≤◌, ◌<◌, ◌+◌, length};
 ghost use Rattle.base.specs.Runs.{reach};
 ghost use Rattle.base.specs.Blocks.{all_pairs, window_run, Ahead};
@@ -62,7 +63,7 @@ pub fn past_blocks<R: Run>(run: R, s: &[u8], at: usize) -> usize
 }
 
 // How many bytes of a window, which has one more after it, belong to the run: the first that does not is searched by the least index. The search has
-// no branch, so that several bytes can be tested by one instruction.
+// no branch, so that several bytes can be tested by one instruction; of indices that are bytes it compares the most at once.
 fn window_count<R: Run>(run: R, s: &[u8; AHEAD]) -> usize
     ensures { result ≡ window_run (R.has run) s.now }
 {

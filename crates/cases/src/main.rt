@@ -198,6 +198,7 @@ fn answer(text: &[u8], how: How) {
         Asked::OneToken(place) => {
             match read_token(text, place, settings, tokens, strings, reports) {
                 Ok(one) => {
+                    // what is read of one token has no count of tokens, and is no `Counts` itself
                     let counts = Counts {
                         tokens: 1,
                         strings: one.strings,

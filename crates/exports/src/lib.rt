@@ -8,7 +8,7 @@ ghost use Rattle.exports.specs.Durations.{verdict_of, value_after};
 
 use utf8::check::Utf8Error;
 
-// The offset of the first byte of the first ill-formed sequence, or the length of a text that has none.
+// The offset of the first byte of the first ill-formed sequence, or the length of a text that has none. Both have 64 bits: `try_from` could fail.
 #[unsafe(no_mangle)]
 pub extern "C" fn utf8_check(text: &[u8]) -> u64
     ensures { result ≡ valid_to text.now }

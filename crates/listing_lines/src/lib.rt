@@ -36,7 +36,7 @@ fn line_numbers(numbers: &[i64; RECORD_WIDTH]) -> [i64; 7]
     [start, end, line, column, kind, reason, nanos]
 }
 
-// The same of a token, which is measured before a record of it is stored.
+// The same of a token, which is measured before a record of it is stored. The casts lose nothing, as is required: `try_from` would add a case that cannot come.
 fn token_numbers(t: Token) -> [i64; 7]
     requires { RecordFits (record_of 0 t) }
     ensures { result ≡ line_numbers (record_of 0 t) }
@@ -63,7 +63,7 @@ fn line_size(row: &[i64; 7]) -> usize
     size
 }
 
-// Writes the line of these numbers from `at` on, and gives where it ends.
+// Writes the line of these numbers from `at` on, and gives where it ends. An index, since the lines are written to one buffer.
 fn put_line(row: &[i64; 7], out: &mut [u8], at: usize) -> usize
     requires { at + length (line_text row.now) ≤ length out.old }
     ensures { (result ≡ at + length (line_text row.now)) × (out.new ≡ sets out.old at (line_text row.now)) }
@@ -87,6 +87,7 @@ fn strictly() -> Settings
 }
 
 // How many bytes the lines of a text's tokens have. It writes nothing, so that the out buffer is measured before the text is read.
+// No `for`: the place jumps by the length of the token that was found.
 fn lines_size(text: &[u8]) -> usize
     requires { (length text.now ≤ max_message_size) × Octets text.now }
     ensures { result ≡ length (token_lines text.now) }
@@ -116,7 +117,7 @@ fn holds_lines(room: usize, text: &[u8]) -> bool
     }
 }
 
-// Writes the lines of the first `count` records from the buffer's start, and gives where they end.
+// Writes the lines of the first `count` records from the buffer's start, and gives where they end. A count, since a reading counts what it has stored.
 fn put_lines(tokens: &[i64], count: usize, out: &mut [u8]) -> usize
     requires { (count * record_width ≤ length tokens.now) × (length (row_lines count tokens.now) ≤ length out.old) }
     ensures { (result ≡ length (row_lines count tokens.now)) × (out.new ≡ sets out.old 0 (row_lines count tokens.now)) }

@@ -29,7 +29,7 @@ pub fn number_size(z: i64) -> usize
     text(z, &mut buffer).len()
 }
 
-// Writes a number and the byte after it from `at` on, and gives where they end.
+// Writes a number and the byte after it from `at` on, and gives where they end. An index, since a line is written to one buffer number by number.
 pub fn write_number(out: &mut [u8], at: usize, z: i64, after: u8) -> usize
     requires { at + length (number_text z) + 1 ≤ length out.old }
     ensures end { result ≡ at + length (number_text z) + 1 }

@@ -6,7 +6,7 @@ use crate::values;
 use lexer::reading::{Reading, Settings};
 use token::place::Place;
 
-// The reading of a number: 1 is tolerant, any other strict.
+// The reading of a number: 1 is tolerant, any other strict. No `From`: neither the type nor the trait is declared here.
 fn reading_of(mode: u8) -> Reading
     ensures { result ≡ reading_of mode }
 {

@@ -17,6 +17,7 @@ pub struct Instant {
 const EPOCH: i64 = 62167219200;
 
 // The seconds from 1970-01-01T00:00:00Z, `local` being those of the date and time as written from 0000-01-01T00:00:00 on.
+// The casts lose nothing, as is required: `try_from` would add a case that cannot come.
 #[tactic(auto, using(crate::proofs::Seconds::west_is, crate::proofs::Seconds::east_is))]
 fn unix_seconds(local: usize, offset: usize, west: bool) -> i64
     requires { SecondsFit local offset }

@@ -19,7 +19,7 @@ pub enum Refusal {
 impl Numbered for Refusal {
     ghost number_of = { refusal_number };
 
-    // Document 02's number.
+    // Document 02's number. Each refusal has an `impl` of its own, for cases and numbers of its own.
     fn number(self) -> u8 {
         match self {
             Refusal::BadRun => 11,

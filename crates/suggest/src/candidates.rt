@@ -34,7 +34,7 @@ fn can_stand(b: u8) -> bool
     is_digit(b) | is_duration_unit(b) | (b == b' ') | (b == b'-') | (b == b'.')
 }
 
-// Adds what the text gives, which is the run with the byte `b` at the offset `i`, of which the surroundings are known.
+// Adds what the text gives, which is the run with the byte `b` at the offset `i`, of which the surroundings are known. An offset, since a suggestion holds it.
 fn try_byte(text: &[u8], i: usize, b: u8, around: Around, found: &mut Suggestions<'_>)
     requires { (i < 0x10000) × (found.old.count < 0x10000) × Cut text.now around }
     ensures same_list { SameList found.old found.new }

@@ -16,7 +16,8 @@ pub struct Suggestion {
     pub byte: u8,
 }
 
-// Where an entry of so many nanoseconds goes among the first `count`: behind those of as many or fewer.
+// Where an entry of so many nanoseconds goes among the first `count`: behind those of as many or fewer. The count
+// stands beside the list here and below, since a part of the list that is borrowed would have no room for one entry more.
 fn place_for(list: &[i64], count: usize, nanos: i64) -> usize
     requires { count * entry_width ≤ length list.now }
     ensures { Place list.now count nanos result }
@@ -25,7 +26,7 @@ fn place_for(list: &[i64], count: usize, nanos: i64) -> usize
     entries.partition_point(|entry| entry[0] <= nanos)
 }
 
-// Moves the numbers from `at` to `end` on by an entry, the last one first.
+// Moves the numbers from `at` to `end` on by an entry, the last one first: `copy_within` calls the C library.
 fn make_room(list: &mut [i64], at: usize, end: usize)
     requires { (at ≤ end) × (end + entry_width ≤ length list.old) }
     ensures { Moved list.old at end list.new }
@@ -36,7 +37,7 @@ fn make_room(list: &mut [i64], at: usize, end: usize)
 }
 
 // Puts an entry into its place among the first `count`, in a list that has room for it. It comes after all of the others by its offset and byte, so that
-// those of as many nanoseconds stay before it.
+// those of as many nanoseconds stay before it. The offset is small, as is required: `try_from` would add a case that cannot come.
 fn put(list: &mut [i64], count: usize, x: Suggestion)
     requires { (count * entry_width + entry_width ≤ length list.old) × (x.offset < 0x10000) }
     ensures { Added x count list.old list.new }

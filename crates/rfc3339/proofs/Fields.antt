@@ -4,20 +4,20 @@ use mathlib.Core.Path.{◌≡◌, sym, ◌∙◌}
 use mathlib.Core.Bool.{true, ◌&&◌}
 use mathlib.Core.List.{List, [], ◌∷◌}
 use Prim.Native.Nat.{ℕ, zero, suc, ◌+◌, ◌-◌, ◌*◌, ◌≤◌, ◌<◌, zero-le}
-use native.Mathlib.Nat.{add-zero}
 use native.Mathlib.Omega.{arith}
-use borrow.Author.Tests.{eqb-true, eqb-false, ne_eqb}
+use Rattle.std.proofs.lemmas.Int.{ints}
+use borrow.Author.Tests.{eqb-true, ne_eqb}
 use lib.Dec.{eqb}
 use lib.ListN.{take, get_or}
 use Rattle.base.specs.Bytes.{byte}
 use Rattle.base.specs.Classes.{is_digit}
-use Rattle.base.proofs.Tests.{and_left, and_right, and-false, or_case, by_cases, pick_case, digit_range}
+use Rattle.base.proofs.Tests.{and_left, and_right, and-false, by_cases, pick_case, digit_range}
 use Rattle.rfc3339.specs.Calendar.{month_lengths, month_length, sum_of, days_of_years, days_of_months, days_to}
 use Rattle.rfc3339.specs.Grammar.{parse_grammar, is_at, is_pair, year_of, month_of, day_of, is_fullyear, is_month, is_full_date, has_two, hour_end, hour_of}
 use Rattle.rfc3339.specs.Grammar.{is_hour, minute_of, second_of, is_minute, is_second, is_partial_time, secfrac_end, offset_hour_of}
 use Rattle.rfc3339.specs.Grammar.{offset_minute_of, is_offset_hour, is_offset_minute, has_sign, is_numoffset, is_z, is_offset}
-use Rattle.rfc3339.specs.Instant.{local_seconds, epoch_seconds, offset_seconds, seconds_of}
-use Rattle.rfc3339.specs.Helpers.{offset_size, unix_seconds}
+use Rattle.rfc3339.specs.Instant.{local_seconds, offset_seconds, seconds_of}
+use Rattle.rfc3339.specs.Helpers.{offset_of, unix_seconds}
 use Rattle.rfc3339.proofs.Days.{years_closed}
 use Rattle.rfc3339.proofs.Pairs.{pair_low, pair_high, pair_or_next, second_is}
 
@@ -102,20 +102,12 @@ module _ (s : List ℕ) (e : is_offset parse_grammar s ≡ true) where
   unfolding is_z
   other_mark n = numoffset s (rw (ne_eqb mark 90 n, and-false (eqb mark 122)) at e)
 
-  pub offset_le : offset_size s ≤ 90000
-  offset_le =
-      pick_case (λ n. n ≤ 90000) (eqb mark 90) (λ _. zero-le)
-      (λ n. let o = other_mark (eqb-false mark 90 n) in omega arith)
+  -- its sign is no "Z"
+  pub offset_le : (k : ℕ) → k < 90 → offset_seconds k s ≤ 90000
+  unfolding offset_seconds
+  offset_le k h =
+      pick_case (λ n. n ≤ 90000) (eqb mark k) (λ f. let o = other_mark (λ z. omega (arith, eqb-true mark k f)) in omega arith) (λ _. zero-le)
 
-  -- the mark is one of three
-  mark_case : {X : Type 0} → (mark ≡ 90 → X) → (mark ≡ 43 → X) → (mark ≡ 45 → X) → X
-  unfolding has_sign
-  mark_case z p m =
-      by_cases (eqb mark 90) (λ f. z (eqb-true mark 90 f))
-      (λ f. or_case (eqb mark 43) (eqb mark 45) (other_mark (eqb-false mark 90 f)).sign
-      (λ i. p (eqb-true mark 43 i)) (λ i. m (eqb-true mark 45 i)))
-
-  pub seconds_are : unix_seconds (local_seconds s) (offset_size s) (is_at 45 s (secfrac_end s)) ≡ seconds_of s
-  unfolding unix_seconds seconds_of offset_seconds
-  seconds_are =
-      mark_case (λ f. rw (f, add-zero (local_seconds s))) (λ f. rw (f, add-zero (local_seconds s))) (λ f. rw (f, add-zero epoch_seconds))
+pub seconds_are : (s : List ℕ) → unix_seconds (local_seconds s) (offset_of s) ≡ seconds_of s
+unfolding offset_of seconds_of
+seconds_are s = omega (arith, ints)

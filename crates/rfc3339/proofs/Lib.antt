@@ -1,5 +1,4 @@
 pub mod Days
-mod Seconds
 mod Pairs
 mod Places
 mod Nanos

@@ -10,23 +10,19 @@ use base::peek;
 #[derive(Clone, Copy, PartialEq, Eq, Debug)]
 pub struct Instant {
     pub seconds: i64,
-    pub nanos: usize,
+    pub nanos: u32,
 }
 
 // The seconds from 0000-01-01T00:00:00Z to 1970-01-01T00:00:00Z.
 const EPOCH: i64 = 62167219200;
 
 // The seconds from 1970-01-01T00:00:00Z, `local` being those of the date and time as written from 0000-01-01T00:00:00 on.
-// The casts lose nothing, as is required: `try_from` would add a case that cannot come.
-#[tactic(auto, using(crate::proofs::Seconds::west_is, crate::proofs::Seconds::east_is))]
-fn unix_seconds(local: usize, offset: usize, west: bool) -> i64
+// The cast loses nothing, as is required: `try_from` would add a case that cannot come.
+fn unix_seconds(local: usize, offset: i64) -> i64
     requires { SecondsFit local offset }
-    ensures { result ≡ unix_seconds local offset west }
+    ensures { result ≡ unix_seconds local offset }
 {
-    if west {
-        return ((local + offset) as i64) - EPOCH;
-    }
-    (local as i64) - EPOCH - (offset as i64)
+    local as i64 - EPOCH - offset
 }
 
 // The instant of a run, if it is a date-time.
@@ -41,9 +37,8 @@ pub fn parse(run: &[u8]) -> Option<Instant>
     let full_time = FullTime::new(run);
     let time = full_time.partial_time()?;
     let offset = full_time.time_offset()?;
-    let west = peek(run, full_time.after_fraction) == b'-';
     Some(Instant {
-        seconds: unix_seconds(days * 86400 + time, offset, west),
+        seconds: unix_seconds(days * 86400 + time, offset),
         nanos: full_time.nanos(),
     })
 }

@@ -3,7 +3,7 @@ ghost use Rattle.std.specs.Prelude.{◌≡◌, true, ◌+◌, ◌≤◌, length,
 ghost use Rattle.base.specs.Classes.{is_digit};
 ghost use Rattle.rfc3339.specs.Grammar.{digit_of, hour_end, secfrac_end};
 ghost use Rattle.rfc3339.specs.Instant.{secfrac_digits, secfrac_nanos};
-ghost use Rattle.rfc3339.specs.Helpers.{pair_by, full_date, hour_at, partial_time, time_offset};
+ghost use Rattle.rfc3339.specs.Helpers.{pair_by, full_date, hour_at, partial_time, time_offset, OffsetRange};
 
 use crate::calendar::{days_from_civil, days_in_month};
 use base::class::is_digit;
@@ -15,18 +15,18 @@ const NANO_DIGITS: usize = 9;
 
 // The number of a digit. Under a `requires` and no `Option`: an `unwrap` in `nanos` tests again when it runs, five instructions a digit.
 #[tactic(auto, using(base::proofs::Tests::digit_range))]
-fn digit(b: u8) -> usize
+fn digit(b: u8) -> u8
     requires { is_digit b ≡ true }
     ensures number { result ≡ digit_of b }
     ensures at_most { result ≤ 9 }
 {
-    usize::from(b - b'0')
+    b - b'0'
 }
 
 // The number of two digits, where it is from `least` to `most`. A timestamp calls it six times or eight; as a function of its own it made them a tenth
 // slower.
 #[inline(always)]
-#[tactic(auto, using(crate::proofs::Steps::pair_steps))]
+#[tactic(auto, using(crate::proofs::Steps::pair_none))]
 fn pair(a: u8, b: u8, least: usize, most: usize) -> Option<usize>
     ensures number { result ≡ pair_by least most a b }
     ensures range { IfSome result (λ n. (least ≤ n) × (n ≤ most)) }
@@ -34,11 +34,8 @@ fn pair(a: u8, b: u8, least: usize, most: usize) -> Option<usize>
     if !(is_digit(a) & is_digit(b)) {
         return None;
     }
-    let n = digit(a) * 10 + digit(b);
-    if (n < least) | (most < n) {
-        return None;
-    }
-    Some(n)
+    let n = usize::from(digit(a) * 10 + digit(b));
+    (least..=most).contains(&n).then_some(n)
 }
 
 // A year, a month and a day: the days from 0000-01-01.
@@ -67,15 +64,12 @@ fn hour(s: &[u8]) -> Option<usize>
     if is_digit(b) {
         return pair(a, b, 0, 23);
     }
-    if !is_digit(a) {
-        return None;
-    }
-    Some(digit(a))
+    is_digit(a).then(|| usize::from(digit(a)))
 }
 
 // Where the hour ends.
 #[tactic(auto, unfolding(crate::specs::Grammar::hour_end))]
-pub fn hour_end(s: &[u8]) -> usize
+fn hour_end(s: &[u8]) -> usize
     ensures { result ≡ hour_end s.now }
 {
     if is_digit(peek(s, 12)) {
@@ -86,7 +80,7 @@ pub fn hour_end(s: &[u8]) -> usize
 
 // Where the fraction of the second ends: after a mark and all the digits there, or at once.
 #[tactic(auto, using(crate::proofs::Places::hour_end_le), unfolding(crate::specs::Grammar::secfrac_end, crate::specs::Grammar::has_secfrac))]
-pub fn fraction_end(s: &[u8]) -> usize
+fn fraction_end(s: &[u8]) -> usize
     ensures { result ≡ secfrac_end s.now }
 {
     let f = hour_end(s) + 6;
@@ -140,8 +134,8 @@ impl<'a> FullTime<'a> {
     }
 
     // The nanoseconds of the fraction: its first nine digits, and zeros where there are fewer.
-    #[tactic(auto, using(crate::proofs::Nanos::places_none, crate::proofs::Nanos::fraction_digit))]
-    pub fn nanos(&self) -> usize
+    #[tactic(auto, using(crate::proofs::Nanos::fraction_digit))]
+    pub fn nanos(&self) -> u32
         ensures { result ≡ secfrac_nanos (secfrac_digits self.now.run.now) }
     {
         let start = self.after_hour + 7;
@@ -149,17 +143,17 @@ impl<'a> FullTime<'a> {
         for k in 0..NANO_DIGITS {
             n *= 10;
             if start + k < self.after_fraction {
-                n += digit(self.run[start + k]);
+                n += u32::from(digit(self.run[start + k]));
             }
         }
         n
     }
 
-    // The offset, to the end of the run: its seconds, whatever its sign.
+    // The offset, to the end of the run: the seconds that local time is ahead of UTC.
     #[tactic(auto, using(crate::proofs::Steps::offset_steps))]
-    pub fn time_offset(&self) -> Option<usize>
+    pub fn time_offset(&self) -> Option<i64>
         ensures seconds { result ≡ time_offset self.now.run.now }
-        ensures at_most { IfSome result (λ n. n ≤ 90000) }
+        ensures range { IfSome result OffsetRange }
     {
         let s = self.run;
         let z = self.after_fraction;
@@ -173,6 +167,7 @@ impl<'a> FullTime<'a> {
         }
         let hour = pair(peek(s, z + 1), peek(s, z + 2), 0, 24)?;
         let minute = pair(peek(s, z + 4), peek(s, z + 5), 0, 60)?;
-        Some(hour * 3600 + minute * 60)
+        let seconds = (hour * 3600 + minute * 60) as i64;
+        Some(if mark == b'-' { -seconds } else { seconds })
     }
 }

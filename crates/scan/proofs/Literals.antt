@@ -71,7 +71,7 @@ module _ (s : List ℕ) where
 
     pub bytes_scanned : (m : Mode) (limit : ℕ) → Scanned s (lex_bytes m limit s)
     unfolding lex_bytes
-    bytes_scanned m limit = stop_scanned m (bytes_stop limit 0 (drop 2 s)) (stands limit s _ _ refl refl)
+    bytes_scanned m limit = stop_scanned m (bytes_stop limit 0 (drop 2 s)) (stands limit s)
 
 -- its reports: as many as the token says, and at its start
 module _ (m : Mode) (limit : ℕ) (s : List ℕ) where

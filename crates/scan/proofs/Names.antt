@@ -14,8 +14,10 @@ use Rattle.base.proofs.Reaches.{reach_ge, reach_le, reach_one}
 use Rattle.base.proofs.Tests.{pick_case, in_text}
 use Rattle.token.specs.Kind.{kind_number}
 use Rattle.token.specs.Helpers.{Flat}
+use Rattle.token.specs.declared.kind.TokenKind.{TokenKind}
 use Rattle.token.specs.declared.kind.TokenKind.TheVariants as K
 use Rattle.token.specs.declared.reason.Reason.TheVariants as R
+use Rattle.lexeme.specs.Lexeme.{whole}
 use Rattle.utf8.proofs.Boundaries.{ascii_boundary}
 use Rattle.scan.specs.Run.{in_name}
 use Rattle.scan.specs.Name.{true_word, false_word, null_word, type_word, dataset_word, proto_word, name_kind, lex_ident, directive, lex_directive}
@@ -57,9 +59,10 @@ ident_on_line s e =
 named_on_line : (w s : List ℕ) (n : ℕ) → Ends s n → Flat s n → OnLine s (directive w n)
 unfolding directive kind_number
 named_on_line w s n e f =
-    pick_case (OnLine s) (same_bytes w type_word) (λ q. record { scanned = whole_scanned s n e K.AtType (plain K.AtType refl); flat = f })
-    (λ q. pick_case (OnLine s) (same_bytes w dataset_word) (λ q. record { scanned = whole_scanned s n e K.AtDataset (plain K.AtDataset refl); flat = f })
-    (λ q. pick_case (OnLine s) (same_bytes w proto_word) (λ q. record { scanned = whole_scanned s n e K.AtProto (plain K.AtProto refl); flat = f })
+    let line : (k : TokenKind) → Plain k → OnLine s (whole k n) = λ k p. record { scanned = whole_scanned s n e k p; flat = f } in
+    pick_case (OnLine s) (same_bytes w type_word) (λ q. line K.AtType (plain K.AtType refl))
+    (λ q. pick_case (OnLine s) (same_bytes w dataset_word) (λ q. line K.AtDataset (plain K.AtDataset refl))
+    (λ q. pick_case (OnLine s) (same_bytes w proto_word) (λ q. line K.AtProto (plain K.AtProto refl))
     (λ q. record {
       scanned = extent_scanned s n e K.AtDirective 1 (n - 1) 0 (plain K.AtDirective refl) (omega (arith, e.some)) (omega arith);
       flat = f;

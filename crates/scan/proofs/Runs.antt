@@ -103,11 +103,7 @@ pub ruleset turns = (nat_tests, letters_same, letters_in, point_turn, two_turn, 
 
 -- a test that no byte from 0x80 on passes, where it passes
 pub low : (p : ℕ → Bool) → ((a : ℕ) → 0x80 ≤ a → p a ≡ false) → (a : ℕ) → p a ≡ true → ltb a 0x80 ≡ true
-low p high a e = go (ltb a 0x80) refl
-  where
-    go : (b : Bool) → ltb a 0x80 ≡ b → ltb a 0x80 ≡ true
-    go true q = q
-    go false q = true_false (p a) e (high a (ltb-false a 0x80 q))
+low p high a e = by_cases (ltb a 0x80) (λ q. q) (λ q. true_false (p a) e (high a (ltb-false a 0x80 q)))
 
 pub equal_high : (k : ℕ) → k < 0x80 → (a : ℕ) → 0x80 ≤ a → eqb a k ≡ false
 equal_high k l a h = ne_eqb a k (λ e. omega arith)
@@ -173,19 +169,15 @@ micro_size s i e =
 -- what each piece of a duration keeps, all of them keep; n bounds the bytes that are left
 module _ (s : List ℕ) (P : ℕ → Type 0) (one : (i : ℕ) → i < length s → one_byte s i ≡ true → P i → P (i + 1))
     (two : (i : ℕ) → micro s i ≡ true → P i → P (i + 2)) where
-  pub units_from : (n i : ℕ) → length s ≤ i + n → P i → P (past unit_piece s i)
+  units_from : (n i : ℕ) → length s ≤ i + n → P i → P (past unit_piece s i)
   units_from zero i h b = rw (past_end unit_piece s i (omega arith)) b
   units_from (suc n) i h b =
-      go (ltb i (length s)) (one_byte s i) (micro s i) refl refl refl (λ c. units_from n (i + 1) (omega arith) c) (λ c. units_from n (i + 2) (omega arith) c)
-    where
-      go : (x y z : Bool) → ltb i (length s) ≡ x → one_byte s i ≡ y → micro s i ≡ z → (P (i + 1) → P (past unit_piece s (i + 1)))
-          → (P (i + 2) → P (past unit_piece s (i + 2))) → P (past unit_piece s i)
-      go false y z p q r f g = rw (past_end unit_piece s i (ltb-false i (length s) p)) b
-      go true true z p q r f g =
-          let l = ltb-true i (length s) p in
-          rw (← one_turn s i l q) (f (one i l q b))
-      go true false true p q r f g = rw (← micro_turn s i (ltb-true i (length s) p) q r) (g (two i r b))
-      go true false false p q r f g = rw (piece_stop s i (ltb-true i (length s) p) q r) b
+      by_cases (ltb i (length s))
+      (λ p. let l = ltb-true i (length s) p in
+      by_cases (one_byte s i) (λ q. rw (← one_turn s i l q) (units_from n (i + 1) (omega arith) (one i l q b)))
+      (λ q. by_cases (micro s i) (λ r. rw (← micro_turn s i l q r) (units_from n (i + 2) (omega arith) (two i r b)))
+      (λ r. rw (piece_stop s i l q r) b)))
+      (λ p. rw (past_end unit_piece s i (ltb-false i (length s) p)) b)
 
 -- a duration's pieces from a boundary end at one
 pub units_boundary : (s : List ℕ) (i : ℕ) → Boundary s i → Boundary s (past unit_piece s i)

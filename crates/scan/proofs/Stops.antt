@@ -1,7 +1,6 @@
 -- For `bytes_stop` and `lex_bytes`: where a bytes literal stops, one turn of the loop at a time, and what stands there. By induction on the turns
 -- that are left. Assumes nothing.
 use mathlib.Core.Path.{◌≡◌, refl, sym, ◌∙◌}
-use mathlib.Core.Bool.{Bool, true, false}
 use mathlib.Core.List.{List}
 use Prim.Native.Nat.{ℕ, zero, suc, ◌+◌, ◌-◌, ◌*◌, ◌/◌, ◌≤◌, ◌<◌}
 use native.Mathlib.Numerals.{add-one}
@@ -34,9 +33,6 @@ module _ (limit : ℕ) (s : List ℕ) (i : ℕ) where
       let e : i + 1 - 2 ≡ i - 2 + 1 = omega arith in
       rw (e, add-one i, drop-cons s i 0 h)
 
-  pub stop_here : 2 ≤ i → i < length s → stop_from limit s i ≡ stop_from limit s 2 → stop_from limit s 2 ≡ stop_at limit s i
-  stop_here g h u = sym u ∙ stop_at_lem g h
-
   pub stop_end : length s ≤ i → stop_from limit s i ≡ stop.Open (i - 2)
   unfolding bytes_stop
   stop_end h = rw (drop_of_length-le s h)
@@ -64,22 +60,19 @@ module _ (limit : ℕ) (s : List ℕ) where
   -- k bounds the turns that are left
   stands_from : (k i : ℕ) → length s ≤ i + k → 2 ≤ i → i - 2 ≤ length s - 2 → Stands s (stop_from limit s i)
   stands_from zero i h g l = rw (stop_end limit s i (omega arith)) (omega arith)
-  stands_from (suc k) i h g l = go (ltb i (length s)) refl (λ e. stands_from k (i + 1) (omega arith) (omega arith) (omega arith))
-    where
-      here : i - 2 + 2 ≡ i
-      here = omega arith
+  stands_from (suc k) i h g l =
+      let here : i - 2 + 2 ≡ i = omega arith in
+      by_cases (ltb i (length s))
+      (λ q. let e = ltb-true i (length s) q in
+      rw (stop_at_lem limit s i g e)
+      (pick_case (Stands s) (ltb limit ((i - 2) / 4 * 3)) (λ x. omega arith)
+      (λ x. pick_case (Stands s) (eqb (byte s i) 34) (λ y. (omega arith, rw here (eqb-true (byte s i) 34 y)))
+      (λ y. pick_case (Stands s) (eqb (byte s i) 10) (λ z. (omega arith, rw here (eqb-true (byte s i) 10 z)))
+      (λ z. stands_from k (i + 1) (omega arith) (omega arith) (omega arith))))))
+      (λ q. let e = ltb-false i (length s) q in rw (stop_end limit s i e) (omega arith))
 
-      go : (b : Bool) → ltb i (length s) ≡ b → (i < length s → Stands s (stop_from limit s (i + 1))) → Stands s (stop_from limit s i)
-      go false q rest = let e = ltb-false i (length s) q in rw (stop_end limit s i e) (omega arith)
-      go true q rest =
-          let e = ltb-true i (length s) q in
-          rw (stop_at_lem limit s i g e)
-          (pick_case (Stands s) (ltb limit ((i - 2) / 4 * 3)) (λ x. omega arith)
-          (λ x. pick_case (Stands s) (eqb (byte s i) 34) (λ y. (omega arith, rw here (eqb-true (byte s i) 34 y)))
-          (λ y. pick_case (Stands s) (eqb (byte s i) 10) (λ z. (omega arith, rw here (eqb-true (byte s i) 10 z))) (λ z. rest e))))
-
-  pub stands : (r e : Stop) → r ≡ bytes_stop limit 0 (drop 2 s) → r ≡ e → Stands s e
-  stands r e p q = rw (← q, p) (stands_from (length s) 2 (omega arith) (omega arith) (omega arith))
+  pub stands : Stands s (bytes_stop limit 0 (drop 2 s))
+  stands = stands_from (length s) 2 (omega arith) (omega arith) (omega arith)
 
 -- the bytes of a literal, by where it stops
 abbrev count_of : Stop → ℕ
@@ -91,7 +84,7 @@ count_of (stop.Open n) = n
 -- they are in the text; `grind` takes this up where it reads the first equation's side
 pub stop_within : (limit : ℕ) (s : List ℕ)
     → let e = bytes_stop limit 0 (drop 2 s) in (e ≡ e) × (count_of e ≤ length s)
-stop_within limit s = (refl, go (bytes_stop limit 0 (drop 2 s)) (stands limit s _ _ refl refl))
+stop_within limit s = (refl, go (bytes_stop limit 0 (drop 2 s)) (stands limit s))
   where
     go : (e : Stop) → Stands s e → count_of e ≤ length s
     go (stop.Over n) l = omega arith

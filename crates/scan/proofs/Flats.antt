@@ -1,5 +1,5 @@
 -- For names and numbers: a run stays on its line where a newline fails its test. Assumes nothing.
-use mathlib.Core.Path.{◌≡◌, refl}
+use mathlib.Core.Path.{◌≡◌}
 use mathlib.Core.Bool.{Bool, true, false}
 use mathlib.Core.List.{List}
 use Prim.Native.Nat.{ℕ, ◌+◌, ◌≤◌, ◌<◌}
@@ -9,7 +9,7 @@ use lib.Dec.{ltb}
 use Rattle.base.specs.Bytes.{byte}
 use Rattle.base.specs.Runs.{reach}
 use Rattle.base.proofs.Reaches.{reach_all}
-use Rattle.base.proofs.Tests.{true_false}
+use Rattle.base.proofs.Tests.{by_cases, true_false}
 use Rattle.token.specs.Helpers.{Flat}
 
 module _ (s : List ℕ) where
@@ -18,11 +18,7 @@ module _ (s : List ℕ) where
 
   -- from i on to e there is no newline
   flat_more : {i e : ℕ} → ((j : ℕ) → i ≤ j → j < e → byte s j ≡ 10 → ⊥) → Flat s i → Flat s e
-  flat_more {i} none f j h q = go (ltb j i) refl
-    where
-      go : (x : Bool) → ltb j i ≡ x → ⊥
-      go true r = f j (ltb-true j i r) q
-      go false r = none j (ltb-false j i r) h q
+  flat_more {i} none f j h q = by_cases (ltb j i) (λ r. f j (ltb-true j i r) q) (λ r. none j (ltb-false j i r) h q)
 
   pub flat_byte : (p : ℕ → Bool) → p 10 ≡ false → (i : ℕ) → p (byte s i) ≡ true → Flat s i → Flat s (i + 1)
   flat_byte p z i e = flat_more (λ j l h q. let m : i ≡ j = omega arith in true_false (p 10) (rw (m, q) at e) z)

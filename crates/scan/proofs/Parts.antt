@@ -1,20 +1,21 @@
 -- For the functions of number.rt: the parts of a number by the bytes that they begin with. By cases on the tests; a byte that passes one is in the text.
 -- Assumes nothing.
-use mathlib.Core.Path.{◌≡◌, refl, sym}
-use mathlib.Core.Bool.{Bool, true, false, not, ◌&&◌, ◌||◌, and-true}
+use mathlib.Core.Path.{◌≡◌, refl}
+use mathlib.Core.Bool.{Bool, true, false, not, ◌&&◌, ◌||◌}
 use mathlib.Core.List.{List}
 use Prim.Native.Nat.{ℕ, ◌+◌, ◌≤◌, ◌<◌}
 use native.Mathlib.Omega.{arith}
-use borrow.Author.Tests.{eqb-true, eq-eqb}
+use borrow.Author.Tests.{eq-eqb}
 use lib.Dec.{eqb}
 use lib.ListN.{length, take}
 use lib.Seq.{length-take-le}
+use Rattle.std.proofs.lemmas.Bool.Decides.{nat_tests}
 use Rattle.base.specs.Bytes.{byte}
 use Rattle.base.specs.Classes.{is_digit, is_duration_unit}
 use Rattle.base.specs.Digits.{in_digits}
 use Rattle.base.specs.Kinds.{begins_unit}
 use Rattle.base.specs.Runs.{reach, past}
-use Rattle.base.proofs.Tests.{by_cases, in_text, no_digit}
+use Rattle.base.proofs.Tests.{in_text, no_digit}
 use Rattle.base.proofs.Reaches.{reach_ge, reach_le, reach_end, reach_step}
 use Rattle.base.proofs.Walks.{past_le}
 use Rattle.scan.specs.Run.{in_stamp}
@@ -29,7 +30,7 @@ from_second s i e =
 -- a byte that begins a unit begins `µs` or is ASCII
 pub by_first : (a b : ℕ) → at_duration_unit a b ≡ begins_unit a && (not (eqb a 0xC2) || eqb b 0xB5)
 unfolding begins_unit at_duration_unit is_duration_unit
-by_first a b = by_cases (eqb a 0xC2) (λ e. rw (eqb-true a 0xC2 e)) (λ e. rw e (sym (and-true (is_duration_unit a || false))))
+by_first a b = grind (arith, nat_tests)
 
 no_unit : begins_unit 0 ≡ false
 unfolding begins_unit is_duration_unit

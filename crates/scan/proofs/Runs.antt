@@ -9,9 +9,10 @@ use native.Mathlib.Numerals.{add-one}
 use native.Mathlib.Omega.{arith}
 use borrow.Author.Tests.{ltb-true, ltb-false, eqb-true, ne_eqb, not-false}
 use lib.Dec.{ltb, eqb}
-use lib.ListN.{length, drop, get_or-eq_default}
+use lib.ListN.{length, drop}
 use lib.Seq.{drop-cons, get_or-drop}
 use Rattle.std.proofs.lemmas.Bool.Decides.{nat_tests}
+use Rattle.std.proofs.lemmas.Grind.{common_steps}
 use Rattle.base.specs.Choice.{pick}
 use Rattle.base.specs.Bytes.{byte}
 use Rattle.base.specs.Classes.{is_digit, is_lower_alpha, is_ident_start, is_ident_part, is_space}
@@ -83,10 +84,7 @@ module _ (s : List ℕ) (i : ℕ) where
   two_turn f e = micro_turn s i (in_text (λ b. eqb b 0xC2) s i refl (rw e)) (rw e) (rw (e, f))
 
   pub letters_in : 0 < byte s (reach in_letters s i) → reach in_letters s i < length s
-  letters_in h =
-      let j = reach in_letters s i in
-      by_cases (ltb j (length s)) (λ q. ltb-true j (length s) q)
-      (λ q. absurd (omega (arith, get_or-eq_default s 0 (ltb-false j (length s) q))))
+  letters_in h = grind (arith, common_steps)
 
   pub none_turn : eqb (byte s (reach in_letters s i)) 46 && is_digit (byte s (reach in_letters s i + 1)) ≡ false
       → micro s (reach in_letters s i) ≡ false → past unit_piece s i ≡ reach in_letters s i

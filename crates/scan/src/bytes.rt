@@ -8,7 +8,7 @@ use token::kind::TokenKind;
 use token::reason::Reason;
 use utf8::check::char_end;
 
-// Where a bytes literal stops, so many bytes after its opening quote.
+// Where a bytes literal stops, so many bytes after its opening quote. The number beside an enum would be no plainer: each case reads it another way.
 #[derive(Clone, Copy)]
 pub enum Stop {
     // The limit is passed.
@@ -21,7 +21,7 @@ pub enum Stop {
     Open(usize),
 }
 
-// Where the bytes literal that begins with `b"` stops.
+// Where the bytes literal that begins with `b"` stops. Not of the slice after `b"`, for which `lex_bytes` would have to ask for two bytes.
 #[tactic(auto, using(std::proofs::lemmas::Bool::Decides::nat_tests, crate::proofs::Stops::stop_at_lem, crate::proofs::Stops::stop_last))]
 fn bytes_stop(s: &[u8], limit: usize) -> Stop
     ensures { result ≡ bytes_stop limit 0 (drop 2 s.now) }
@@ -72,8 +72,7 @@ pub fn lex_bytes(s: &[u8], mode: Mode, limit: usize) -> Lexeme
     match bytes_stop(s, limit) {
         Stop::Over(n) => Lexeme::illegal(Reason::BytesOverLimit, 0, char_end(s, n + 2)),
         Stop::Closed(n) => bytes_value(n + 3, n, 0),
-        Stop::Newline(n) => open_bytes(mode, n),
-        Stop::Open(n) => open_bytes(mode, n),
+        Stop::Newline(n) | Stop::Open(n) => open_bytes(mode, n),
     }
 }
 

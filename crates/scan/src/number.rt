@@ -1,5 +1,4 @@
-// Numbers, timestamps and durations. An offset counts from the token's first byte, as the definitions and `pos` of lexer.rs do: a slice for each part
-// would need its length added again. No function asks that one is within the text, since past its end no test of a byte passes.
+// Numbers, timestamps and durations.
 ghost use Rattle.std.specs.Prelude.{◌≡◌, ◌+◌, length};
 ghost use Rattle.base.specs.Bytes.{byte};
 ghost use Rattle.go_duration.specs.Parse.{parse_of};
@@ -16,6 +15,8 @@ use go_duration::parse::parse;
 use lexeme::Lexeme;
 use token::kind::TokenKind;
 use token::reason::Reason;
+
+// Offsets count from the token's first byte, as `pos` of lexer.rs does: slices of the rest would need each length added again. They may be past the end.
 
 // A number that ends at `end`, with the precision that follows it or none.
 #[tactic(auto, using(base::proofs::Reaches::reach_ge), unfolding(crate::specs::Number::lex_precision))]

@@ -12,5 +12,6 @@ pub fn lex_other(s: &[u8]) -> Lexeme
     ensures { result ≡ lex_other s.now }
 {
     let code = decode(s).map_or(0, |found| found.code);
+    // no `From` leads from u32 to usize
     Lexeme::illegal(Reason::UnexpectedCharacter, code as usize, char_end(s, 1))
 }

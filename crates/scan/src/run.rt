@@ -121,7 +121,7 @@ impl Run for Letters {
     }
 }
 
-// The end of the run of a duration's pieces that starts at `at`.
+// The end of the run of a duration's pieces that starts at `at`. No `for`: a step is as long as the run of letters or the piece that it is over.
 #[tactic(auto, using(crate::proofs::Runs::turns))]
 pub fn past_units(s: &[u8], at: usize) -> usize
     ensures { result ≡ past unit_piece s.now at }

@@ -77,3 +77,6 @@ value_inside {run} {out} (Ok n) w =
     let e = bytes_are run (length out) n (sym w.answer) in
     omega (arith, ap length w.buffer, length-append (decoded run) (drop (length (decoded run)) out))
 value_inside (Err e) w = omega arith
+
+-- what `decode_bytes` needs at its call and where a run is refused
+pub ruleset outcomes = (refused, bytes_written)

@@ -14,7 +14,7 @@ use lib.Seq.{drop-cons, drop-drop, length-take-le}
 use Rattle.base.specs.Choice.{pick}
 use Rattle.base.specs.Bytes.{byte}
 use Rattle.base.specs.Blocks.{all_pass}
-use Rattle.base.proofs.Tests.{by_cases, and_left, and_right, and-true, and-false, and_assoc, or_left, or_right, pick_case, true_false}
+use Rattle.base.proofs.Tests.{by_cases, and_left, and_right, and-true, and-false, and_assoc, or_left, or_right, pick_case, true_false, told}
 use Rattle.base64_lenient.specs.Rfc4648.{Alphabet, standard, url_safe}
 use Rattle.base64_lenient.specs.Lenient.{is_line_break, is_pad, is_in}
 use Rattle.base64_lenient.specs.Helpers.{in_both, alphabets_by, alphabets_of, shared, some_alphabet, characters_seen, seen_one, seen_all, judged_seen, SeenTo}
@@ -186,3 +186,6 @@ seen_row run left n i j u h l row e z =
     let k = part_size run i j h l in
     seen_further run (characters_seen left n) i u j h l (characters_seen (shared left row) (n + (j - i)))
     (rw e (sym (left_at_once left n (take (j - i) (drop i run)) (rw e at z) ∙ rw k)))
+
+-- what `Seen::one` needs at each return
+pub ruleset steps = (told, seen_break, seen_pad, seen_character, seen_late, seen_both)

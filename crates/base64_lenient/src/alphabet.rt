@@ -269,6 +269,7 @@ pub const VALUES: [u8; 256] = [
 pub const NO_VALUE: u8 = 64;
 
 // Whether both alphabets have the byte.
+#[tactic(auto, using(crate::proofs::AlphabetTests::both_test))]
 pub fn in_both(b: u8) -> bool
     ensures { result ≡ in_both b }
 {
@@ -277,6 +278,7 @@ pub fn in_both(b: u8) -> bool
 }
 
 // Whether the standard alphabet has the byte. A function of the two own characters for this and the next would leave both, as its callers.
+#[tactic(auto, using(crate::proofs::AlphabetTests::standard_test))]
 pub fn in_standard(b: u8) -> bool
     ensures { result ≡ is_in standard b }
 {
@@ -284,6 +286,7 @@ pub fn in_standard(b: u8) -> bool
 }
 
 // Whether the alphabet that is safe in URLs has the byte.
+#[tactic(auto, using(crate::proofs::AlphabetTests::url_test))]
 pub fn in_url_safe(b: u8) -> bool
     ensures { result ≡ is_in url_safe b }
 {

@@ -146,6 +146,7 @@ fn put_bytes(run: &[u8], out: &mut [u8])
 }
 
 // Decodes a run into a buffer. It is judged first, so that a run that fails at its last byte has written nothing.
+#[tactic(auto, using(crate::proofs::Answers::outcomes))]
 pub fn decode_bytes(run: &[u8], out: &mut [u8]) -> Result<usize, Refusal>
     ensures { DecodesBytes run.now out.old result out.new }
 {

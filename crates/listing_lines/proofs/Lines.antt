@@ -3,7 +3,6 @@
 use mathlib.Core.Path.{◌≡◌, refl, sym, ◌∙◌}
 use mathlib.Core.List.{List, [], ◌∷◌, ◌++◌, append_assoc}
 use Prim.Native.Nat.{ℕ, zero, suc, ◌+◌, ◌-◌, ◌*◌, ◌≤◌, ◌<◌}
-use native.Mathlib.Nat.{sub-zero}
 use native.Mathlib.Numerals.{add-one}
 use native.Mathlib.Omega.{arith}
 use lib.IntN.{ℤ, pos}
@@ -58,9 +57,6 @@ refused_length n = omega (arith, length-append (number_text (pos n)) (0x0A ∷ [
 -- what is left of them from the record i on
 abbrev pub rows_from : List ℤ → ℕ → ℕ → List ℕ
 rows_from T count i = row_lines (count - i) (drop (i * record_width) T)
-
-pub rows_start : (T : List ℤ) (count : ℕ) → rows_from T count 0 ≡ row_lines count T
-rows_start T count = rw (sub-zero count)
 
 pub rows_at : (T : List ℤ) (count i : ℕ) → i < count → rows_from T count i ≡ line_text (line_at (drop (i * record_width) T)) ++ rows_from T count (i + 1)
 unfolding row_lines

@@ -12,7 +12,7 @@ use Rattle.suggestion_list.specs.declared.Suggestions.{Suggestions}
 use Rattle.suggestion_list.proofs.Orders.{put_length, put_all_append}
 use Rattle.suggest.specs.Suggestions.{first_byte}
 use Rattle.suggest.specs.Helpers.{Filled, Adds}
-use Rattle.suggest.proofs.TriedBytes.{ordered_none, ordered_byte, ordered_offset, ordered_put}
+use Rattle.suggest.proofs.TriedBytes.{ordered_none, ordered_byte, ordered_put}
 
 -- the list is lent to one call after the other
 pub same_self : (x : Suggestions) → SameList x x
@@ -58,9 +58,3 @@ adds_one z i b a =
 pub adds_then : {xs ys : List Suggestion} {i b j c k d : ℕ} {list list' list'' : List ℤ} {count count' count'' : ℕ}
     → Adds xs i b j c list count list' count' → Adds ys j c k d list' count' list'' count'' → Adds (xs ++ ys) i b k d list count list'' count''
 adds_then {xs} {ys} p q = record { fills = λ old es f. rw (put_all_append es xs ys) (q.fills old (put_all es xs) (p.fills old es f)) }
-
--- all bytes of an offset were tried
-pub adds_offset : {xs : List Suggestion} {i b c : ℕ} {list list' : List ℤ} {count count' : ℕ} → Adds xs i b i c list count list' count'
-    → Adds xs i b (i + 1) first_byte list count list' count'
-adds_offset p =
-    record { fills = λ old es f. let g = p.fills old es f in record { ordered = ordered_offset g.ordered; counted = g.counted; stored = g.stored } }

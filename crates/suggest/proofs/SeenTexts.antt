@@ -2,9 +2,9 @@
 -- and each printable byte of a text in which one Duration is seen can stand there. By the tiles of the text: blanks, the Duration, blanks. Assumes nothing.
 use Rattle.std.specs.Prelude.{Option, Some, None}
 use mathlib.Core.Path.{◌≡◌, refl, sym, ◌∙◌}
-use mathlib.Core.Bool.{Bool, true, not, ◌&&◌, ◌||◌}
+use mathlib.Core.Bool.{true, not, ◌&&◌, ◌||◌}
 use mathlib.Core.List.{List, [], ◌∷◌, ◌++◌}
-use Prim.Native.Nat.{ℕ, zero, suc, ◌+◌, ◌-◌, ◌≤◌, ◌<◌, zero-le}
+use Prim.Native.Nat.{ℕ, suc, ◌+◌, ◌-◌, ◌≤◌, ◌<◌, zero-le}
 use native.Mathlib.Omega.{arith}
 use lib.Dec.{eqb}
 use lib.IntN.{ℤ}
@@ -14,6 +14,7 @@ use borrow.Author.Tests.{eq-eqb, le-ltb, eqb-true, eqb-false, not-true}
 use Rattle.std.specs.Prelude.{Result, Ok, Err}
 use Rattle.base.specs.Bytes.{byte, within, each}
 use Rattle.base.specs.Classes.{is_digit, is_duration_unit, is_space}
+use Rattle.std.proofs.lemmas.List.Recursion.{and_at}
 use Rattle.base.proofs.Tests.{by_cases, and_left, and_right, or_case, pick_first, true_false, zero_one, inside as in_range}
 use Rattle.base.proofs.Reaches.{reach_all}
 use Rattle.limits.specs.Limits.{max_message_size}
@@ -50,11 +51,6 @@ space_clean b e =
 blanks_clean : (l : List ℕ) → ((k : ℕ) → k < length l → is_space (byte l k) ≡ true) → Clean l
 blanks_clean [] f = clean_none
 blanks_clean (b ∷ l) f = clean_append (space_clean b (f 0 (omega arith))) (blanks_clean l (λ k h. f (suc k) (omega arith)))
-
-each_at : (t : ℕ → Bool) (l : List ℕ) → each t l ≡ true → (k : ℕ) → k < length l → t (byte l k) ≡ true
-each_at t [] e k h = absurd (omega arith)
-each_at t (b ∷ l) e zero h = and_left (t b) (each t l) e
-each_at t (b ∷ l) e (suc k) h = each_at t l (and_right (t b) (each t l) e) k (omega arith)
 
 module _ (limit : ℕ) (text : List ℕ) where
   module _ (k : kind_number (next_token Strict limit text 0).kind ≡ duration_number) (e : start_at text (end limit text) ≡ length text) where
@@ -113,7 +109,7 @@ module _ (limit : ℕ) (text : List ℕ) where
     pub seen_stand : (z : ℤ) → seen_in limit text ≡ Some z → (k : ℕ) → k < length text → 0x20 ≤ byte text k → byte text k ≤ 0x7E
         → can_stand (byte text k) ≡ true
     seen_stand z q k h l u =
-        let w = each_at stands text (handed_clean z (sym seen_in_lem ∙ q)).bytes k h in
+        let w = and_at (each stands) stands refl (λ _ _. refl) text k 0 h (handed_clean z (sym seen_in_lem ∙ q)).bytes in
         or_case (can_stand (byte text k)) (not (within 0x20 0x7E (byte text k))) w (λ c. c)
         (λ n. true_false _ (in_range 0x20 0x7E (byte text k) l u) (not-true _ n))
 

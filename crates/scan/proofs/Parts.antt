@@ -1,5 +1,5 @@
--- For the functions of number.rt: the parts of a number by the bytes that they begin with. By cases on the tests; a byte that passes one is in the text.
--- Assumes nothing.
+-- For number.rt and name.rt: the parts of a number by the bytes that they begin with, and runs as slices. By cases on the tests; a byte that passes
+-- one is in the text. Assumes nothing.
 use mathlib.Core.Path.{◌≡◌, refl}
 use mathlib.Core.Bool.{Bool, true, false, not, ◌&&◌, ◌||◌}
 use mathlib.Core.List.{List}
@@ -52,6 +52,8 @@ stamp_size s n e =
     let h = in_text (λ a. eqb a 45) s n refl (eq-eqb (byte s n) 45 e) in
     reach_size in_stamp s n (omega arith)
 
+-- for name.rt
 pub ruleset runs = (reach_ge, reach_le, reach_end, reach_size)
 
+-- for number.rt
 pub ruleset units = (past_size, by_first, unit_in)

@@ -95,6 +95,7 @@ module _ (s : List ℕ) (i : ℕ) where
       sym (letters_same s i) ∙ piece_stop s j h (rw (reach_fails in_letters s i h) e) f)
       (λ q. sym (letters_same s i) ∙ past_end unit_piece s j (ltb-false j (length s) q))
 
+-- a turn of its loop
 pub ruleset turns = (nat_tests, letters_same, letters_in, point_turn, two_turn, none_turn, reach_ge)
 
 -- ---- tests of ASCII bytes

@@ -1,5 +1,5 @@
 -- What the crate above, `lexer`, is told of each token where a byte is left: it is within the text, no Eof and no String, it ends between characters
--- where it starts so, a Duration's run is one that `parse` accepts, and a timestamp's is a date or, with its reason, none. By the makers of lexemes. Assumes
+-- where it starts so, a Duration's run is one that `parse` accepts, a timestamp's is a date, and a bad timestamp's is none. By the makers of lexemes. Assumes
 -- nothing.
 use mathlib.Core.Path.{◌≡◌, refl, ap, sym, ◌∙◌}
 use mathlib.Core.Bool.{Bool, true, false, ◌||◌}

@@ -90,3 +90,8 @@ module _ (s : List ℕ) (n : ℕ) (e : n ≡ until_quotes (take (length s - 3) (
         let a : sets (drop place out) 0 u ≡ u ++ drop (0 + length u) (drop place out) = sets-eq u (drop place out) 0 (omega arith) in
         let b : sets out place u ≡ take place out ++ u ++ drop (place + length u) out = sets-eq u out place h in
         rw (e, value_is w, rest_is out place, z, append-nil, a, b, zero-add, drop-drop, append_assoc)
+
+-- what `lex_triple_string` and `put_triple_string` need at their calls and at each return
+pub ruleset lexing = (raw_in, raw_fits, lex_closed, lex_strict, lex_tolerant)
+
+pub ruleset putting = (raw_in, raw_fits, put_room, put_out)

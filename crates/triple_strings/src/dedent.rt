@@ -31,6 +31,8 @@ impl<'a> Dedent<'a> {
         }
     }
 
+    // Not inlined: the tokens before it in the lexer would take more instructions.
+    #[inline(never)]
     pub fn len(&self) -> usize
         ensures { result ≡ length (stripped self.now.indent.now self.now.body.now) }
     {
@@ -44,7 +46,8 @@ impl<'a> Dedent<'a> {
         size
     }
 
-    // Writes it to the front of a buffer.
+    // Writes it to the front of a buffer. Not inlined, either.
+    #[inline(never)]
     pub fn put(&self, out: &mut [u8])
         requires { length (stripped self.now.indent.now self.now.body.now) ≤ length out.old }
         ensures { out.new ≡ sets out.old 0 (stripped self.now.indent.now self.now.body.now) }

@@ -23,6 +23,7 @@ fn open_triple_end(s: &[u8]) -> usize
 }
 
 // The string at the front of `s`, which begins with three quotes.
+#[tactic(auto, using(crate::proofs::RawParts::lexing))]
 pub fn lex_triple_string(s: &[u8], mode: Mode) -> Lexeme
     requires { 3 ≤ length s.now }
     ensures { result ≡ lex_triple_string mode s.now }
@@ -45,6 +46,7 @@ pub fn lex_triple_string(s: &[u8], mode: Mode) -> Lexeme
 }
 
 // Writes the value of the string at the front of `s` from `place` on.
+#[tactic(auto, using(crate::proofs::RawParts::putting))]
 pub fn put_triple_string(s: &[u8], out: &mut [u8], place: usize)
     requires { (3 ≤ length s.now) × (place + length (dedent (raw_bytes s.now)) ≤ length out.old) }
     ensures { out.new ≡ sets out.old place (dedent (raw_bytes s.now)) }

@@ -107,3 +107,8 @@ code_small s =
 pub white_le : (s : List ℕ) → white_size s ≤ length s
 unfolding white_size
 white_le s = pick_le (is_white (code_of s)) (size_le s) zero-le
+
+-- what `decode` and `white_size` need at each return
+pub ruleset decoding = (decoded_none, decoded)
+
+pub ruleset whitening = (white_none, white_found)

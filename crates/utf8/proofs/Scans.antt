@@ -98,3 +98,8 @@ module _ (s : List ℕ) (i : ℕ) (u : Onward s 0 i) where
         let n = x.valid_up_to in
         let q : valid_to s ≡ n = sym (scan_on n w.onward).same ∙ past_stop char_size s n w.before w.none in
         checked s r (e ∙ rw (q, ne_eqb n (length s) (λ z. omega (arith, w.before))))
+
+-- what `past_chars` and `check` need at each turn and each return
+pub ruleset passing = (onward_first, run_less, passed_ill, char_fits, char_less)
+
+pub ruleset scanning = (onward_first, scan_on)

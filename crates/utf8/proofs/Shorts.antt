@@ -22,6 +22,7 @@ use Rattle.base.proofs.Walks.{past_step}
 use Rattle.utf8.specs.Grammar.{char_size}
 use Rattle.utf8.specs.Helpers.{in_ascii, in_short}
 use Rattle.utf8.specs.Check.{is_tail}
+use Rattle.utf8.proofs.Scans.{onward_first}
 use Rattle.utf8.specs.Onward.{Onward}
 use Rattle.utf8.proofs.Runs.{ascii_past, reach_past}
 
@@ -111,3 +112,6 @@ module _ (s : List ℕ) (at i n : ℕ) (u : Onward s at i) (h : n < length s - i
       over_pairs in_short s (λ k. past char_size s (place s k)) (step s) n i (omega (arith, u.inside)) o in
       let m : past char_size s (i + n + bool_byte x) ≡ past char_size s i = rw (← g, w, add-zero i) at l in
       record { later = omega (arith, u.later); inside = upto x; same = m ∙ u.same }
+
+-- what `past_short` needs at each turn
+pub ruleset windows = (onward_first, ascii_window, window_fits)

@@ -14,7 +14,7 @@ use Rattle.utf8.specs.Grammar.{char_size}
 use Rattle.utf8.specs.State.{lead_of, size_after}
 use Rattle.utf8.specs.declared.state.State.{State}
 use Rattle.utf8.proofs.Chars.{size_le}
-use Rattle.utf8.proofs.Leads.{lead_size}
+use Rattle.utf8.proofs.Leads.{lead_size, lead_tails, lead_ascii, lead_ill}
 use Rattle.base.proofs.Nonzero.{zero_none}
 
 -- an octet that can be the first of several
@@ -31,3 +31,9 @@ size_none s e = zero_none (char_size s) (omega (arith, size_le s))
 -- by what the first byte wants after it
 pub size_by : (s : List ℕ) (a : ℕ) (rest : List ℕ) (t : State) → s ≡ a ∷ rest → t ≡ lead_of a → char_size s ≡ size_after t rest
 size_by s a rest t e f = rw (e, f) (lead_size a rest)
+
+-- what `char_size` needs at its call and for an empty slice
+pub ruleset sizing = (size_none, lead_tails)
+
+-- what `lead` needs where no character of several begins
+pub ruleset leading = (lead_ascii, lead_ill)

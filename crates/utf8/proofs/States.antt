@@ -137,3 +137,6 @@ state_law s =
     (λ p. let o = octets_fed (valid_octets s (eqb-true (valid_to s) (length s) p)) in rw (p, o))
     (λ p. by_cases (is_between (push_all Between s))
     (λ q. absurd (eqb-false (valid_to s) (length s) p (fed_valid (length s) s (omega arith) q))) (λ q. rw (p, q)))
+
+-- what `push` needs at each return
+pub ruleset pushing = (push_out, push_last, push_more)

@@ -12,6 +12,7 @@ ghost use Rattle.utf8.specs.Helpers.{decode_of};
 use crate::state::State;
 
 // UTF8-tail: the bytes of a character after its first.
+#[tactic(auto, unfolding(crate::specs::Check::is_tail))]
 pub fn is_tail(b: u8) -> bool
     ensures { result ≡ is_tail b }
 {
@@ -26,6 +27,7 @@ fn in_range(b: u8, lo: u8, hi: u8) -> bool
 }
 
 // The length of the character at the front of a slice.
+#[tactic(auto, using(crate::proofs::Sizes::sizing))]
 pub fn char_size(s: &[u8]) -> Option<usize>
     ensures { result ≡ nonzero (char_size s.now) }
 {
@@ -58,6 +60,7 @@ pub struct Character {
 }
 
 // The free bits of the bytes of a character.
+#[tactic(auto, unfolding(crate::specs::Character::code_bits))]
 fn code_bits(bytes: &[u8]) -> u32
     ensures { result ≡ code_bits (length bytes.now) bytes.now }
 {
@@ -76,6 +79,7 @@ fn code_bits(bytes: &[u8]) -> u32
 }
 
 // The character at the front of a slice.
+#[tactic(auto, using(crate::proofs::Codes::decoding))]
 pub fn decode(s: &[u8]) -> Option<Character>
     ensures { result ≡ decode_of s.now }
 {
@@ -122,6 +126,7 @@ fn tail_of(bits: u32) -> u8
 }
 
 // The bytes of a code point, and 0 past them.
+#[tactic(auto, unfolding(crate::specs::Character::encode_of), using(std::proofs::lemmas::Bool::Decides::nat_tests))]
 pub fn encode(code: u32) -> Encoded
     requires { code ≤ 0x10FFFF }
     ensures { result ≡ encoded (encode_of code) }
@@ -150,6 +155,7 @@ pub fn encode(code: u32) -> Encoded
 }
 
 // Whether a code point is White_Space.
+#[tactic(auto, using(crate::proofs::Codes::white_law))]
 fn is_white(code: u32) -> bool
     ensures { result ≡ is_white code }
 {
@@ -166,6 +172,7 @@ fn is_white(code: u32) -> bool
 }
 
 // The length of the White_Space character at the front of a slice.
+#[tactic(auto, using(crate::proofs::Codes::whitening))]
 pub fn white_size(s: &[u8]) -> Option<usize>
     ensures { result ≡ nonzero (white_size s.now) }
 {

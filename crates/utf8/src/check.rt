@@ -19,6 +19,7 @@ pub struct Utf8Error {
 const STRETCH: usize = 256;
 
 // The first place between characters from `end` on, or the error where no character stands at a place before it.
+#[tactic(auto, using(crate::proofs::Scans::passing))]
 fn past_chars(text: &[u8], at: usize, end: usize) -> Result<usize, Utf8Error>
     requires { (at ≤ length text.now) × (end ≤ length text.now) }
     ensures { Passed text.now at end result }
@@ -36,6 +37,7 @@ fn past_chars(text: &[u8], at: usize, end: usize) -> Result<usize, Utf8Error>
 }
 
 // Windows of short characters first, and then a stretch of any.
+#[tactic(auto, using(crate::proofs::Scans::scanning))]
 pub fn check(text: &[u8]) -> Result<(), Utf8Error>
     ensures { Checked text.now result }
 {
@@ -50,6 +52,7 @@ pub fn check(text: &[u8]) -> Result<(), Utf8Error>
 }
 
 // Whether an offset of a well-formed text is inside a character.
+#[tactic(auto, unfolding(crate::specs::Check::inside_char))]
 pub fn is_inside(text: &[u8], offset: usize) -> bool
     ensures { result ≡ inside_char text.now offset }
 {

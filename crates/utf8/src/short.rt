@@ -14,6 +14,7 @@ struct Short;
 impl Run for Short {
     ghost has = { λ _. in_short };
 
+    #[tactic(auto, unfolding(crate::specs::Helpers::in_short))]
     fn has(self, a: u8, b: u8) -> bool {
         ((0xC2 <= a) & (a <= 0xDF) & is_tail(b)) | ((a < 0xC0) & !is_tail(b))
     }
@@ -21,6 +22,7 @@ impl Run for Short {
 
 // The end of the windows from `at` on that have only characters of one or two bytes. Each is tested with the byte after it, which ends the
 // character that the window's last byte may begin.
+#[tactic(auto, using(crate::proofs::Shorts::windows))]
 pub fn past_short(text: &[u8], at: usize) -> usize
     requires { at ≤ length text.now }
     ensures { Onward text.now at result }

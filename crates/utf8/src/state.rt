@@ -47,6 +47,7 @@ impl State {
     }
 
     // What the first byte of a character wants after it.
+    #[tactic(auto, unfolding(crate::specs::State::lead_of, crate::specs::Grammar::utf8_char), using(crate::proofs::Sizes::leading))]
     pub(crate) fn lead(a: u8) -> State
         ensures { result ≡ lead_of a }
     {
@@ -74,6 +75,7 @@ impl State {
     }
 
     // The state after one byte more.
+    #[tactic(auto, unfolding(crate::specs::State::push), using(crate::proofs::States::pushing))]
     pub fn push(self, b: u8) -> State
         ensures { result ≡ push self b }
     {

@@ -1,16 +1,9 @@
 -- `char_size` meets its contract: the size goes by what the first byte wants after it. Assumes nothing.
-use Rattle.utf8.proofs.Leads.{lead_tails}
-use Rattle.utf8.proofs.Sizes.{size_none, size_by}
+use Rattle.utf8.proofs.Sizes.{size_by}
 use Rattle.utf8.proofs.character.char_size.Goals as goal
-
-pub returns-in_err-first : goal.returns-in_err-first
-returns-in_err-first c = rw c.from_residual.ensures (size_none _ c.in_err-first.ensures.cases)
 
 pub returns-in-Between : goal.returns-in-Between
 returns-in-Between c = rw (size_by _ _ _ _ c.in_ok-first.ensures.cases.0 c.in-Between.ensures)
-
-pub long_size-requires : goal.long_size-requires
-long_size-requires c = lead_tails _ _ _ _ c.in-Wants.ensures
 
 pub returns-in-Wants : goal.returns-in-Wants
 returns-in-Wants c = rw (size_by _ _ _ _ c.in_ok-first.ensures.cases.0 c.in-Wants.ensures) c.long_size.ensures

@@ -91,7 +91,7 @@ module _ (s : List ℕ) (n : ℕ) (e : n ≡ until_quotes (take (length s - 3) (
         let b : sets out place u ≡ take place out ++ u ++ drop (place + length u) out = sets-eq u out place h in
         rw (e, value_is w, rest_is out place, z, append-nil, a, b, zero-add, drop-drop, append_assoc)
 
--- what `lex_triple_string` and `put_triple_string` need at their calls and at each return
-pub ruleset lexing = (raw_in, raw_fits, lex_closed, lex_strict, lex_tolerant)
+-- what `put_triple_string` needs for its places, and `lex_triple_string` for its places and at each return
+pub ruleset places = (raw_in, raw_fits)
 
-pub ruleset putting = (raw_in, raw_fits, put_room, put_out)
+pub ruleset lexing = (places, lex_closed, lex_strict, lex_tolerant)

@@ -46,7 +46,7 @@ pub fn lex_triple_string(s: &[u8], mode: Mode) -> Lexeme
 }
 
 // Writes the value of the string at the front of `s` from `place` on.
-#[tactic(auto, using(crate::proofs::RawParts::putting))]
+#[tactic(auto, using(crate::proofs::RawParts::places))]
 pub fn put_triple_string(s: &[u8], out: &mut [u8], place: usize)
     requires { (3 ≤ length s.now) × (place + length (dedent (raw_bytes s.now)) ≤ length out.old) }
     ensures { out.new ≡ sets out.old place (dedent (raw_bytes s.now)) }

@@ -73,12 +73,6 @@ strict_closing m s i e z = rw e (rw (add-zero i) at (closing i 0 (drop i s) (rw 
 
 -- `put_string` at i
 module _ {m : Mode} {s : List ℕ} {len : ℕ} {out₀ : List ℕ} {place until : ℕ} {out : List ℕ} {i p : ℕ} (u : Writing m s len out₀ place until out i p) where
-  pub left_in : p ≤ until
-  left_in = omega (arith, u.count)
-
-  pub left_room : p + (until - p) ≤ length out
-  left_room = omega (arith, u.count, u.store.room, u.store.same)
-
   pub left_source : i + (until - p) ≤ length s
   left_source = let b : Bounds s i (from m s i) = bounds m s i u.inside in omega (arith, b.bytes_in, b.upto, u.count)
 

@@ -227,9 +227,6 @@ module _ (s : List ℕ) (i e : ℕ) (ee : e ≡ reach in_ordinary s i) where
     pub run_in : e ≤ length s
     run_in = rw ee (reach_le in_ordinary s i h)
 
-    pub run_source : i + (e - i) ≤ length s
-    run_source = omega (arith, run_ge, run_in)
-
     pub run_gives : (m : Mode) → Gives m s i (take (e - i) (drop i s)) [] (e - i) e
     unfolding reach
     run_gives m =
@@ -256,7 +253,7 @@ module _ (P : List ℕ → List ℕ → Type 0) (ends : (l : List ℕ) → P l [
       go None e ih = ends (x ∷ y ∷ l)
       go (Some b) e ih = more x y b l e ih
 
-simple_le : (l : List ℕ) → 2 * length (simple_bytes l) ≤ length l
+pub simple_le : (l : List ℕ) → 2 * length (simple_bytes l) ≤ length l
 simple_le = by_escapes (λ l v. 2 * length v ≤ length l) (λ l. omega arith) (λ x y b l e ih. omega arith)
 
 -- an escape of one letter

@@ -5,15 +5,12 @@ use mathlib.Core.Bool.{Bool, true}
 use mathlib.Core.List.{List, ◌∷◌}
 use Rattle.std.proofs.Common.{Option, Some, None, is_some, unwrap_or, get_or-take}
 use Prim.Native.Nat.{ℕ, suc, ◌+◌, ◌-◌, ◌*◌, ◌^◌, ◌≤◌, ◌<◌}
-use native.Mathlib.Nat.{pow-le-pow_right, pow-suc}
+use native.Mathlib.Nat.{pow-suc}
 use native.Mathlib.Numerals.{add-one}
 use native.Mathlib.Omega.{arith}
-use lib.Dec.{lit<}
 use lib.ListN.{length, drop, take}
 use lib.Seq.{drop-cons, length-take-le}
 use borrow.Author.Tests.{le-ltb, lt-ltb, leb-true}
-use mir.Syntax.{w32}
-use mir.Val.{Fits}
 use Rattle.base.specs.Choice.{pick}
 use Rattle.base.specs.Bytes.{byte}
 use Rattle.base.proofs.Tests.{and_left}
@@ -37,24 +34,6 @@ pub record Run (n : ℕ) (l : List ℕ) (r k : ℕ) : Type 0 where
   pub value : hex_value n 0 l ≡ hex_value (n - k) r (drop k l)
   pub small : r < 16 ^ k
 
-pub run_first : (n : ℕ) (l : List ℕ) → Run n l 0 0
-run_first n l =
-    let e : n - 0 ≡ n = omega arith in
-    record { upto = omega arith; count = rw e (omega arith); value = rw e refl; small = lit< tt }
-
--- before the last digit of eight the number is below 2 ^ 28
-run_small : (n : ℕ) (l : List ℕ) (r k : ℕ) → n ≤ 8 → k < n → Run n l r k → r < 268435456
-run_small n l r k h m u =
-    let p : 16 ^ k ≤ 16 ^ 7 = pow-le-pow_right {n = 16} (lit< tt) {j = 7} (omega arith) in
-    omega (arith, u.small)
-
-module _ (n : ℕ) (l : List ℕ) (r k : ℕ) (h : n ≤ 8) (m : k < n) (u : Run n l r k) where
-  pub run_fits : Fits w32 (r * 16)
-  run_fits = omega (arith, run_small n l r k h m u)
-
-  pub run_fits_2 : (d w : ℕ) → d < 16 → w ≡ d → Fits w32 (r * 16 + w)
-  run_fits_2 d w b e = omega (arith, run_small n l r k h m u)
-
 count_cons : (n x : ℕ) (l : List ℕ) → hex_count (suc n) (x ∷ l) ≡ pick (is_some (hex_of x)) (suc (hex_count n l)) 0
 unfolding hex_count
 count_cons n x l = refl
@@ -76,7 +55,8 @@ module _ (n : ℕ) (l : List ℕ) (r k : ℕ) (long : n ≤ length l) (u : Run n
       u.count ∙ rw (s, drop-cons l k 0 (omega (arith, below)), count_cons, add-one k) refl
 
   -- a byte that is no digit
-  pub run_bad : (v : Option ℕ) (p : Piece) (reason : Reason) (letter : ℕ) → v ≡ hex_of (byte (take n l) k) → v ≡ None → p ≡ Bad reason letter (k + 2) → p ≡ code_piece n reason letter l
+  pub run_bad : (v : Option ℕ) (p : Piece) (reason : Reason) (letter : ℕ) → v ≡ hex_of (byte (take n l) k) → v ≡ None → p ≡ Bad reason letter (k + 2)
+      → p ≡ code_piece n reason letter l
   unfolding code_piece
   run_bad v p reason letter e f q =
       let c : hex_count n l ≡ k = count_here ∙ rw (← here, ← e, f) (omega arith) in

@@ -16,7 +16,8 @@ use Rattle.base.specs.Runs.{run, reach, walk, past}
 use Rattle.utf8.specs.Grammar.{char_size, utf8_char, valid_to}
 use Rattle.utf8.specs.Check.{is_tail, char_end}
 use Rattle.utf8.specs.Character.{is_scalar, encode_of}
-use Rattle.strings.specs.Piece.{hex_of, oct_of, simple_of, letters, hex_byte, hex_piece, oct_byte, oct_piece, hex_count, hex_value, code_piece, escape_piece, piece_of}
+use Rattle.strings.specs.Piece.{hex_of, oct_of, simple_of, letters, hex_byte, hex_piece, oct_byte, oct_piece, hex_count, hex_value}
+use Rattle.strings.specs.Piece.{code_piece, escape_piece, piece_of}
 use Rattle.strings.specs.Decode.{step_of, letter_detail, step_notes, decode}
 use Rattle.strings.specs.Literal.{well_formed, literal_of, end_reason, literal_reason, end_detail, literal_end}
 use Rattle.strings.specs.Literal.{end_notes, literal_notes, lex_string, string_bytes, string_notes}
@@ -49,7 +50,8 @@ examples =
     ∷ example Tolerant (ascii "\"\\u12zz\"") (extent K.String 8 0 4 1)
     (ascii "\\uzz") (note R.BadU 0 2 ∷ [])
     -- `"\é"`, tolerant
-    ∷ example Tolerant (ascii "\"\\" ++ (0xC3 ∷ 0xA9 ∷ ascii "\"")) (extent K.String 5 0 3 1) (ascii "\\" ++ (0xC3 ∷ 0xA9 ∷ [])) (note R.UnknownEscape 195 2 ∷ [])
+    ∷ example Tolerant (ascii "\"\\" ++ (0xC3 ∷ 0xA9 ∷ ascii "\"")) (extent K.String 5 0 3 1) (ascii "\\" ++ (0xC3 ∷ 0xA9 ∷ []))
+    (note R.UnknownEscape 195 2 ∷ [])
     -- `"a\`, both modes: the backslash is dropped
     ∷ example Strict (ascii "\"a\\") (illegal R.OpenEscape 0 3) [] []
     ∷ example Tolerant (ascii "\"a\\") (extent K.String 3 0 1 1) (ascii "a") (note_at_start R.OpenEscape ∷ [])
@@ -70,7 +72,7 @@ examples =
     ∷ []
 
 examples_hold : map computed examples ≡ examples
-unfolding examples run reach walk past char_size utf8_char valid_to is_tail char_end is_scalar encode_of hex_of oct_of simple_of letters
-    reason_number hex_byte hex_piece oct_byte oct_piece hex_count hex_value code_piece escape_piece piece_of step_of letter_detail step_notes decode well_formed literal_of
-    end_reason literal_reason end_detail literal_end end_notes literal_notes lex_string string_bytes string_notes
+unfolding examples run reach walk past char_size utf8_char valid_to is_tail char_end is_scalar encode_of hex_of oct_of simple_of letters reason_number
+    hex_byte hex_piece oct_byte oct_piece hex_count hex_value code_piece escape_piece piece_of step_of letter_detail step_notes decode well_formed
+    literal_of end_reason literal_reason end_detail literal_end end_notes literal_notes lex_string string_bytes string_notes
 examples_hold = refl

@@ -21,7 +21,8 @@ use Rattle.lexeme.specs.declared.Mode.{Mode}
 use Rattle.lexeme.specs.declared.Mode.TheVariants.{Strict, Tolerant}
 use Rattle.strings.specs.Decode.{Decoded}
 use Rattle.strings.specs.Helpers.{measured}
-use Rattle.strings.specs.Literal.{well_formed, literal_of, bytes_reason, token_for, end_reason, literal_reason, end_detail, literal_end, end_notes, literal_notes, lex_string}
+use Rattle.strings.specs.Literal.{well_formed, literal_of, bytes_reason, token_for, end_reason, literal_reason, end_detail}
+use Rattle.strings.specs.Literal.{literal_end, end_notes, literal_notes, lex_string}
 use Rattle.strings.specs.declared.literal.Measure.{Measure}
 use Rattle.strings.proofs.Bounds.{Bounds, literal_bounds}
 

@@ -225,7 +225,10 @@ module _ (m : Mode) (s : List ℕ) (h : 0 < length s) where
       by_steps m s (λ (i : ℕ) (d : Decoded). Lettered d)
       (λ i e p k g u. record { detail = ending_detail m i e u.named; noted = λ x q. absurd (Memᴰ.not-nil q) })
       (λ i enc used reason r k w v.
-      record { detail = v.detail; noted = λ x q. ⊎_elim (step_notes_lem i enc used reason k w x) (v.noted x) (Memᴰ.append_cases (step_notes reason (byte enc.bytes 1) i) q) })
+      record {
+        detail = v.detail;
+        noted = λ x q. ⊎_elim (step_notes_lem i enc used reason k w x) (v.noted x) (Memᴰ.append_cases (step_notes reason (byte enc.bytes 1) i) q);
+      })
       1 h
 
   pub string_within : Within s (lex_string m s)

@@ -1,4 +1,4 @@
--- For `put_note`, `put_tolerant_notes` and `put_string_notes`: the reports that are left, stored from here on, make the whole. By the parts of
+-- For `put_tolerant_notes`: the reports that are left, stored from here on, make the whole. By the parts of
 -- the text, one turn at a time. Assumes nothing.
 use mathlib.Core.Path.{◌≡◌, refl, sym, ap, ◌∙◌}
 use mathlib.Core.List.{List, [], ◌∷◌, ◌++◌, append_assoc}
@@ -26,8 +26,7 @@ use Rattle.lexeme.specs.Lexeme.{Note, note_at_start}
 use Rattle.lexeme.specs.Reports.{report_at, report_of}
 use Rattle.lexeme.specs.Helpers.{notes_numbers}
 use Rattle.lexeme.proofs.Notes.{report_fits}
-use Rattle.lexeme.specs.declared.Mode.{Mode}
-use Rattle.lexeme.specs.declared.Mode.TheVariants.{Strict, Tolerant}
+use Rattle.lexeme.specs.declared.Mode.TheVariants.{Tolerant}
 use Rattle.strings.specs.Piece.{piece_of}
 use Rattle.strings.specs.Plain.{in_ordinary}
 use Rattle.strings.specs.Decode.{Decoded, step_of, letter_detail, step_notes}
@@ -38,17 +37,6 @@ use Rattle.strings.specs.declared.literal.Step.{Step}
 use Rattle.strings.specs.declared.literal.Step.TheVariants.{Go, Stop}
 use Rattle.strings.proofs.Decodes.{from, Gives, Went, went, from_stop, step_gives, run_ge, run_gives}
 use Rattle.base.proofs.Storings.{Storing, storing_first, storing_end, storing_room, storing_more}
-
--- ---- `put_note`
-
-module _ (text : List ℕ) (to : ℕ) (place : Place) (is : place ≡ place_at text to) (reason : Reason) (detail : ℕ) where
-  pub escape_fits : (known : Place) → Walkable text known to → detail ≤ 255 → ReportFits (report_at place reason detail)
-  escape_fits known w d = report_fits text to place reason detail is w.inside w.short d
-
-  pub escape_put : (letter : ℕ) (out : List ℤ) (p : ℕ) (o : List ℤ) → detail ≡ letter_detail reason letter
-      → o ≡ sets out p (report_numbers (report_at place reason detail))
-      → o ≡ sets out p (report_numbers (report_at (place_at text to) reason (letter_detail reason letter)))
-  escape_put letter out p o e q = rw (← is, ← e) q
 
 -- ---- `put_tolerant_notes`
 
@@ -88,7 +76,8 @@ notes_left {s} {ns = ns} {j = j} g =
     ap (literal_notes Tolerant) g.is ∙ append_assoc ns r.notes (end_notes r.ending)
 
 -- the report of an ending, as `end_report` finds it
-ending_notes : (text : List ℕ) (a : ℕ) (reason : Reason) → notes_numbers text a (note_at_start reason ∷ []) ≡ report_numbers (report_at (place_at text a) reason 0)
+ending_notes : (text : List ℕ) (a : ℕ) (reason : Reason)
+    → notes_numbers text a (note_at_start reason ∷ []) ≡ report_numbers (report_at (place_at text a) reason 0)
 unfolding notes_numbers report_of
 ending_notes text a reason = rw (add-zero a)
 
@@ -180,11 +169,15 @@ module _ (text : List ℕ) (start : Place) (out₀ : List ℤ) (at : ℕ) (s : L
         pub note_fits : length out₀ < 2 ^ 64 → Fits w64 (p + report_width)
         note_fits l = omega (arith, note_room, ran.store.same)
 
-        pub noting_note : (place₂ : Place) (o : List ℤ) → place₂ ≡ place_at text (start.offset + e + 1)
-            → o ≡ sets out p (report_numbers (report_at (place_at text (start.offset + e + 1)) reason (letter_detail reason (byte enc.bytes 1))))
+        pub note_report : (place₂ : Place) (detail : ℕ) → place₂ ≡ place_at text (start.offset + e + 1) → detail ≤ 255
+            → ReportFits (report_at place₂ reason detail)
+        note_report place₂ detail ep h = report_fits text (start.offset + e + 1) place₂ reason detail ep to_in ran.fit.short h
+
+        pub noting_note : (place₂ : Place) (detail : ℕ) (o : List ℤ) → place₂ ≡ place_at text (start.offset + e + 1)
+            → detail ≡ letter_detail reason (byte enc.bytes 1) → o ≡ sets out p (report_numbers (report_at place₂ reason detail))
             → Noting text start out₀ at s o (e + used) (p + report_width) place₂
         unfolding numbers
-        noting_note place₂ o ep eo =
+        noting_note place₂ detail o ep ed eo =
             let at-to : place₂.offset ≡ start.offset + e + 1 = ap (λ (x : Place). x.offset) ep ∙ place_offset text (start.offset + e + 1) to_in in
             record {
               fit = ran.fit;
@@ -192,19 +185,5 @@ module _ (text : List ℕ) (start : Place) (out₀ : List ℤ) (at : ℕ) (s : L
               inside = gives.inside;
               known = ep ∙ ap (place_at text) (sym at-to);
               behind = omega (arith, w.taken.some);
-              store = storing_more ran.store numbers (left text start s (e + used)) step_numbers refl o eo;
+              store = storing_more ran.store numbers (left text start s (e + used)) step_numbers refl o (rw (← ep, ← ed) eo);
             }
-
--- ---- `put_string_notes`: the mode decides
-
-module _ (m : Mode) (text : List ℕ) (a : ℕ) (out : List ℤ) (at : ℕ) where
-  pub strict_none : m ≡ Strict → out ≡ sets out at (string_numbers m text a)
-  unfolding string_notes literal_notes notes_numbers
-  strict_none e = rw e
-
-  pub tolerant_put : (o : List ℤ) → m ≡ Tolerant → o ≡ sets out at (string_numbers Tolerant text a) → o ≡ sets out at (string_numbers m text a)
-  tolerant_put o e q = rw e q
-
-pub tolerant_fit : (m : Mode) (text : List ℕ) (start : Place) (out : List ℤ) (at : ℕ) → m ≡ Tolerant → NotesFit m text start out at
-    → NotesFit Tolerant text start out at
-tolerant_fit m text start out at e f = rw e at f

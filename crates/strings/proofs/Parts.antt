@@ -4,14 +4,12 @@ use mathlib.Core.Path.{◌≡◌, refl, sym, ap, ◌∙◌}
 use mathlib.Core.Bool.{Bool, true, false, not, ◌&&◌, ◌||◌}
 use mathlib.Core.List.{List, [], ◌∷◌, ◌++◌, append_assoc}
 use Rattle.std.proofs.Common.{Option, Some}
-use Prim.Native.Nat.{ℕ, suc, ◌+◌, ◌-◌, ◌*◌, ◌^◌, ◌≤◌, ◌<◌}
+use Prim.Native.Nat.{ℕ, suc, ◌+◌, ◌-◌, ◌*◌, ◌≤◌, ◌<◌}
 use native.Mathlib.Omega.{arith}
 use borrow.Author.Tests.{ne_eqb, eqb-true, ltb-true, ltb-false, not-false}
 use lib.Dec.{eqb, ltb}
 use lib.ListN.{length, take, drop, length-drop, length-append}
 use lib.Seq.{drop-drop, get_or-drop}
-use mir.Syntax.{w64}
-use mir.Val.{Fits}
 use Rattle.base.specs.Runs.{reach}
 use Rattle.base.proofs.Reaches.{rest_is}
 use Rattle.base.proofs.Tests.{and_left, and_right, or_left, or_right, pick_case, true_false, zero_one}
@@ -161,18 +159,3 @@ module _ (s : List ℕ) (i end count : ℕ) (u : Parting s i end count) (e : ℕ
     parting_more =
         let o : Octets (drop e s) = boundary_rest s e (run_boundary s end e t u.spells.inside u.rest) in
         record { spells = spells_more; rest = rw (← same_count, drop-drop (2 * n) e s) at (simples_rest (drop e s) o) }
-
-    pub sum_fits : length s < 2 ^ 64 → Fits w64 (e - end + n)
-    sum_fits l = let p = spells_more in omega arith
-
-    pub total_fits : length s < 2 ^ 64 → Fits w64 (count + (e - end + n))
-    total_fits l = let p = spells_more in omega arith
-
-    pub double_fits : length s < 2 ^ 64 → Fits w64 (2 * n)
-    double_fits l = let p = spells_more in omega arith
-
-    pub end_fits : length s < 2 ^ 64 → Fits w64 (e + 2 * n)
-    end_fits l = let p = spells_more in omega arith
-
-    pub end_later : (n ≡ 0 → ⊥) → length s - (e + 2 * n) < length s - end
-    end_later z = let p = spells_more in omega (arith, run_ge s end e t)

@@ -20,7 +20,8 @@ use Rattle.token.specs.Reason as reasons
 use Rattle.token.specs.Reason.{reason_number, is_unknown_escape}
 use Rattle.token.specs.declared.reason.Reason.{Reason}
 use Rattle.token.specs.declared.reason.Reason.TheVariants as R
-use Rattle.strings.specs.Piece.{hex_of, oct_of, simple_of, byte_piece, hex_byte, hex_piece, oct_byte, oct_piece, hex_count, hex_value, code_piece, letter_piece, escape_piece, piece_of}
+use Rattle.strings.specs.Piece.{hex_of, oct_of, simple_of, byte_piece, hex_byte, hex_piece, oct_byte, oct_piece, hex_count, hex_value}
+use Rattle.strings.specs.Piece.{code_piece, letter_piece, escape_piece, piece_of}
 use Rattle.strings.specs.declared.piece.Piece.{Piece}
 use Rattle.strings.specs.declared.piece.Piece.TheVariants.{Bytes, Bad, Close, Newline, Cut, Open}
 

@@ -1,4 +1,4 @@
--- For `step_at`: what it returns is a row of its definition. Assumes nothing.
+-- For `step_at`: the end of a bad escape fits. By the facts of its piece. Assumes nothing.
 use mathlib.Core.Path.{◌≡◌, sym, ◌∙◌, subst}
 use mathlib.Core.List.{List}
 use Prim.Native.Nat.{ℕ, ◌+◌, ◌-◌, ◌^◌, ◌≤◌, ◌<◌}
@@ -8,21 +8,10 @@ use mir.Syntax.{w64}
 use mir.Val.{Fits}
 use Rattle.base.proofs.Reaches.{rest_is}
 use Rattle.token.specs.declared.reason.Reason.{Reason}
-use Rattle.lexeme.specs.declared.Mode.{Mode}
 use Rattle.strings.specs.Piece.{piece_of}
-use Rattle.strings.specs.Decode.{step_of}
 use Rattle.strings.specs.declared.piece.Piece.{Piece}
 use Rattle.strings.specs.declared.piece.Piece.TheVariants as piece
-use Rattle.strings.specs.declared.literal.Step.{Step}
 use Rattle.strings.proofs.PieceFacts.{PieceFacts, Refused, piece_facts}
-
--- `step_at`: what the mode makes of the piece that is found
-module _ (m : Mode) (i : ℕ) (s : List ℕ) (q p : Piece) (is : q ≡ piece_of (take (length s - i) (drop i s))) (e : q ≡ p) (r : Step) where
-  pub step_row : r ≡ step_of m i p → r ≡ step_of m i (piece_of (drop i s))
-  step_row f = rw (← rest_is s i, ← is, e) f
-
-  pub step_of_mode : (n : Mode) → m ≡ n → r ≡ step_of n i p → r ≡ step_of m i (piece_of (drop i s))
-  step_of_mode n t f = step_row (rw t f)
 
 -- the end of a bad escape is within the text
 pub bad_fits : (s : List ℕ) (i : ℕ) (q : Piece) (reason : Reason) (letter used : ℕ) → i ≤ length s → length s < 2 ^ 64

@@ -116,7 +116,8 @@ module _ {m : Mode} {s : List ℕ} {i count reports : ℕ} {state : State} (u : 
     pub quote_fits : length s < 2 ^ 64 → Fits w64 (e + 1)
     quote_fits l = omega (arith, quote_in s e (sym ex ∙ q))
 
-    pub measuring_quote : record { count = count + size; reports = reports; stop = e + 1; end = end.Closed; state = state } ≡ measured 0 0 Between (literal_of m s)
+    pub measuring_quote : record { count = count + size; reports = reports; stop = e + 1; end = end.Closed; state = state }
+        ≡ measured 0 0 Between (literal_of m s)
     measuring_quote = measuring_stop (quote_stop m s e x ex q) refl
 
   -- a step goes on

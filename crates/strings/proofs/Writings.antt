@@ -120,15 +120,6 @@ module _ {m : Mode} {s : List ℕ} {len : ℕ} {out₀ : List ℕ} {place until 
       pub escaped_fits : length out₀ < 2 ^ 64 → Fits w64 (p + (e - i) + n)
       escaped_fits l = omega (arith, escaped.store.room)
 
-      pub double_fits : length s < 2 ^ 64 → Fits w64 (2 * n)
-      double_fits l = omega (arith, escaped.inside)
-
-      pub end_fits : length s < 2 ^ 64 → Fits w64 (e + 2 * n)
-      end_fits l = omega (arith, escaped.inside)
-
-      pub escaped_less : (n ≡ 0 → ⊥) → length s - (e + 2 * n) < length s - i
-      escaped_less z = omega (arith, escaped.inside, run_ge s i e ee)
-
       -- there are none: a step
       module _ (z : n ≡ 0) where
         still : Writing m s len out₀ place until (put_mid (p + (e - i)) (length o - (p + (e - i))) o y) e (p + (e - i))

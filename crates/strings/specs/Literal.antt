@@ -16,7 +16,8 @@ use Rattle.strings.specs.Decode.{Decoded, letter_detail, decode}
 use Rattle.strings.specs.declared.literal.End.{End}
 use Rattle.strings.specs.declared.literal.End.TheVariants as end
 
--- Types that other files explain: `TokenKind` in token/specs/Kind.antt; `Lexeme`, `Mode` in lexeme/specs/Lexeme.antt; `End` in Decode.antt; `Reason` in token/specs/Reason.antt.
+-- Types that other files explain: `TokenKind` in token/specs/Kind.antt; `Reason` in token/specs/Reason.antt; `Lexeme`, `Mode` in
+-- lexeme/specs/Lexeme.antt; `End` in Decode.antt.
 
 -- the bytes are UTF-8
 unfoldable pub well_formed : List ℕ → Bool

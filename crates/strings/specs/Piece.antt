@@ -1,5 +1,6 @@
 -- One step of a string literal: a byte, an escape, or what ends it. From `lex_string`, `read_hex_byte`, `read_oct_rest`, `read_hex_rune`.
-use Rattle.std.specs.Prelude.{Option, Some, None, is_some, unwrap_or, option_and_then, option_map, List, [], ◌∷◌, ℕ, zero, suc, ◌+◌, ◌-◌, ◌*◌, ltb, eqb, length, drop}
+use Rattle.std.specs.Prelude.{Option, Some, None, is_some, unwrap_or, option_and_then, option_map, List, [], ◌∷◌, ℕ, zero, suc, ◌+◌, ◌-◌, ◌*◌}
+use Rattle.std.specs.Prelude.{ltb, eqb, length, drop}
 use Prim.Native.Char.{code}
 use Rattle.base.specs.Choice.{pick}
 use Rattle.base.specs.Bytes.{byte, within}

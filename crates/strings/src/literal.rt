@@ -1,6 +1,6 @@
 // A whole string literal: one step at a time, and at once the parts that have only characters that stand for themselves and escapes of one
 // letter.
-ghost use Rattle.std.specs.Prelude.{◌≡◌, false, ◌+◌, ◌≤◌, ◌<◌, eqb, length, drop};
+ghost use Rattle.std.specs.Prelude.{◌≡◌, false, ◌+◌, ◌*◌, ◌≤◌, ◌<◌, length, drop};
 ghost use Rattle.std.proofs.lemmas.List.Edits.{sets};
 ghost use Rattle.base.specs.Choice.{pick};
 ghost use Rattle.base.specs.Bytes.{byte};
@@ -73,6 +73,7 @@ fn stop_at(end: End, stop: usize) -> Step
 }
 
 // The step at the offset i of the token.
+#[tactic(auto, unfolding(crate::specs::Decode::step_of), using(base::proofs::Reaches::rest_is))]
 pub fn step_at(s: &[u8], i: usize, mode: Mode) -> Step
     requires { i ≤ length s.now }
     ensures { result ≡ step_of mode i (piece_of (drop i s.now)) }
@@ -155,8 +156,10 @@ fn simple_at(pair: &[u8; 2]) -> Option<u8>
 }
 
 // How many escapes of one letter follow each other at the front.
+#[tactic(auto, using(crate::proofs::Decodes::simple_le))]
 fn simple_count(t: &[u8]) -> usize
-    ensures { result ≡ length (simple_bytes t.now) }
+    ensures count { result ≡ length (simple_bytes t.now) }
+    ensures few { 2 * result ≤ length t.now }
 {
     let (pairs, _) = t.as_chunks::<2>();
     pairs
@@ -166,9 +169,11 @@ fn simple_count(t: &[u8]) -> usize
 }
 
 // Stores the bytes that those escapes stand for, and counts them.
+#[tactic(auto, using(crate::proofs::Decodes::simple_le))]
 pub fn put_simple(t: &[u8], out: &mut [u8]) -> usize
     requires { length (simple_bytes t.now) ≤ length out.old }
     ensures count { result ≡ length (simple_bytes t.now) }
+    ensures few { 2 * result ≤ length t.now }
     ensures stored { out.new ≡ sets out.old 0 (simple_bytes t.now) }
 {
     let (pairs, _) = t.as_chunks::<2>();

@@ -31,25 +31,6 @@ fn end_report(end: End) -> Option<Reason>
     }
 }
 
-// Stores the report of a bad escape whose letter is at the offset `to`, and gives its place. A place before it is known.
-fn put_note(
-    text: &[u8],
-    from: Place,
-    to: usize,
-    reason: Reason,
-    letter: u8,
-    out: &mut [i64],
-    p: usize,
-) -> Place
-    requires { Walkable text.now from to × (p + report_width ≤ length out.old) }
-    ensures { (result ≡ place_at text.now to) × (out.new ≡ sets out.old p (report_numbers (report_at (place_at text.now to) reason (letter_detail reason letter)))) }
-{
-    let place = walk(text, from, to);
-    let detail = letter_detail(reason, letter);
-    put_report(place, reason, detail, out, p);
-    place
-}
-
 // Stores the reports of the tolerant literal that starts at a place of the text, from `at` on.
 fn put_tolerant_notes(text: &[u8], start: Place, out: &mut [i64], at: usize)
     requires { NotesFit M.Tolerant text.now start out.old at }
@@ -73,7 +54,9 @@ fn put_tolerant_notes(text: &[u8], start: Place, out: &mut [i64], at: usize)
                 let Some(reason) = reason else {
                     continue;
                 };
-                place = put_note(text, place, first + e + 1, reason, encoded.bytes[1], out, p);
+                place = walk(text, place, first + e + 1);
+                let detail = letter_detail(reason, encoded.bytes[1]);
+                put_report(place, reason, detail, out, p);
                 p += REPORT_WIDTH;
             }
             Step::Stop { end, stop: _ } => {
@@ -87,6 +70,7 @@ fn put_tolerant_notes(text: &[u8], start: Place, out: &mut [i64], at: usize)
 }
 
 // Stores the reports of the literal that starts at a place of the text, from `at` on. A strict literal has none.
+#[tactic(auto, unfolding(crate::specs::Literal::string_notes, crate::specs::Literal::literal_notes, lexeme::specs::Helpers::notes_numbers))]
 pub fn put_string_notes(text: &[u8], start: Place, mode: Mode, out: &mut [i64], at: usize)
     requires { NotesFit mode text.now start out.old at }
     ensures { out.new ≡ sets out.old at (string_numbers mode text.now start.offset) }

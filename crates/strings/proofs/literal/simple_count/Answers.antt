@@ -8,8 +8,8 @@ use Rattle.std.proofs.lemmas.List.Folds.{length-prefix_len}
 use Rattle.strings.proofs.Pairs.{pair_at, pairs_are, pairs_count}
 use Rattle.strings.proofs.literal.simple_count.Goals as goal
 
-pub returns : goal.returns
-returns c =
+pub returns-clause-count : goal.returns-clause-count
+returns-clause-count c =
     let pairs = c.as_chunks.result.0.now in
     let count = count_from_yields_List c.take_while.result _ c.count.ensures.ran
     (YieldsList-from_take_while _ (λ p. is_some (pair_at p)) (YieldsList-from_slice pairs cc) c.take_while.ensures.closure c.take_while.ensures.done

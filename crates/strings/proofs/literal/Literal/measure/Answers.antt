@@ -9,10 +9,10 @@ pub loop-s-init : goal.loop-s-init
 loop-s-init c = search measuring_first
 
 pub overflow_add-count : goal.overflow_add-count
-overflow_add-count c = search (part_fits c.loop-s.invariant c.part_at-part.ensures.spelled c.part_at-part.ensures.none)
+overflow_add-count c = search part_fits
 
 pub overflow_add-stop : goal.overflow_add-stop
-overflow_add-stop c = search (quote_fits c.loop-s.invariant c.part_at-part.ensures.spelled c.part_at-part.ensures.none)
+overflow_add-stop c = search quote_fits
 
 pub returns-then-peek-eq34 : goal.returns-then-peek-eq34
 returns-then-peek-eq34 c = search measuring_quote
@@ -27,16 +27,16 @@ pub overflow_add-count-in-Go : goal.overflow_add-count-in-Go
 overflow_add-count-in-Go c = search step_fits
 
 pub overflow_add-reports : goal.overflow_add-reports
-overflow_add-reports c = search (reports_fit c.loop-s.invariant c.part_at-part.ensures.spelled c.part_at-part.ensures.none)
+overflow_add-reports c = search reports_fit
 
 pub overflow_add-i : goal.overflow_add-i
-overflow_add-i c = search (used_fits c.loop-s.invariant c.part_at-part.ensures.spelled c.part_at-part.ensures.none)
+overflow_add-i c = search used_fits
 
 pub loop-s-smaller : goal.loop-s-smaller
-loop-s-smaller c = search (measuring_less c.loop-s.invariant c.part_at-part.ensures.spelled c.part_at-part.ensures.none)
+loop-s-smaller c = search measuring_less
 
 pub loop-s-preserved : goal.loop-s-preserved
-loop-s-preserved c = search (measuring_go c.loop-s.invariant c.part_at-part.ensures.spelled c.part_at-part.ensures.none)
+loop-s-preserved c = search measuring_go
 
 pub returns-in-Stop : goal.returns-in-Stop
 returns-in-Stop c = search measuring_stop

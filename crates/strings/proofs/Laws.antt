@@ -41,6 +41,7 @@ use Rattle.strings.specs.declared.literal.End.{End}
 use Rattle.strings.specs.declared.literal.End.TheVariants as end
 use Rattle.strings.proofs.PieceFacts.{Taken}
 use Rattle.strings.proofs.Decodes.{Went, Named, Clean, at_end, after, before, Ended, by_steps}
+use Rattle.strings.proofs.Judges.{end_le}
 use Rattle.strings.proofs.Bounds.{Bounds, literal_bounds, Sound, zero_sound, tolerant_sound}
 
 -- ---- a literal is a String with its bytes, or Illegal with none
@@ -144,15 +145,6 @@ reason_le : (m : Mode) (d : Decoded) → number_of (end_reason d.ending) ≤ rea
 unfolding literal_reason
 reason_le Strict d h = or_le (end_reason d.ending) (bytes_reason d) reasons.string_not_utf8 (omega arith) (utf8_le (well_formed d.bytes))
 reason_le Tolerant d h = utf8_le (well_formed d.bytes)
-
--- an ending makes one report at most
-end_le : (e : End) → length (end_notes e) ≤ 1
-unfolding end_notes
-end_le end.Closed = lit≤ tt
-end_le end.AtNewline = lit≤ tt
-end_le end.Cut = lit≤ tt
-end_le end.Open = lit≤ tt
-end_le (end.Bad reason letter) = lit≤ tt
 
 notes_le : (m : Mode) (d : Decoded) → length (literal_notes m d) ≤ length d.notes + 1
 unfolding literal_notes

@@ -8,10 +8,11 @@ ghost use Rattle.lexeme.specs.Lexeme.{extent, illegal_reported};
 ghost use Rattle.std.proofs.lemmas.List.Edits.{sets};
 ghost use Rattle.utf8.specs.Grammar.{Octets};
 ghost use Rattle.strings.specs.Decode.{letter_detail};
-ghost use Rattle.strings.specs.Literal.{literal_of, end_reason, end_detail, literal_end, end_notes, lex_string};
+ghost use Rattle.strings.specs.Literal.{literal_of, end_reason, end_detail, literal_end, lex_string};
 ghost use Rattle.strings.specs.Helpers.{Sized};
 
 use crate::literal::{End, Literal, Measure, Step, ordinary_end, put_simple, step_at};
+use crate::notes::end_report;
 use lexeme::{Lexeme, Mode};
 use token::kind::TokenKind;
 use token::reason::Reason;
@@ -66,17 +67,6 @@ fn end_of(s: &[u8], end: End, stop: usize) -> usize
     }
 }
 
-// How many reports a tolerant ending makes.
-#[tactic(auto, unfolding(crate::specs::Literal::end_notes))]
-fn end_reports(end: End) -> usize
-    ensures { (result ≡ length (end_notes end)) × (result ≤ 1) }
-{
-    match end {
-        End::Closed | End::Bad { .. } => 0,
-        End::AtNewline | End::Cut | End::Open => 1,
-    }
-}
-
 // The reason that makes a literal Illegal whose bytes are not UTF-8.
 fn utf8_reason(state: State) -> Option<Reason>
     ensures { result ≡ pick (is_between state) None (Some R.StringNotUtf8) }
@@ -115,12 +105,16 @@ pub fn lex_string(s: &[u8], mode: Mode) -> Lexeme
     let bytes = utf8_reason(m.state);
     match mode {
         Mode::Strict => token_for(s, m, end_reason(m.end).or(bytes), 0),
-        Mode::Tolerant => token_for(s, m, bytes, m.reports + end_reports(m.end)),
+        Mode::Tolerant => {
+            let reported = usize::from(end_report(m.end).is_some());
+            token_for(s, m, bytes, m.reports + reported)
+        }
     }
 }
 
 // Writes what the literal stands for from `place` on. It takes `len` bytes of text and stands for `size` bytes. An escape takes more bytes of
 // text than it stands for, so a strict literal, which is closed, has none from where on there is as much text as there are bytes to write.
+// `size`, `out` and `place` stay three, as lexer hands them on; a slice of `out` that shrinks would be lent anew at each turn beside that offset.
 pub fn put_string(s: &[u8], mode: Mode, len: usize, size: usize, out: &mut [u8], place: usize)
     requires { (0 < length s.now) × (place + size ≤ length out.old) × Sized mode s.now len size }
     ensures { out.new ≡ sets out.old place (literal_of mode s.now).bytes }

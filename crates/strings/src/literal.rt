@@ -72,7 +72,7 @@ fn stop_at(end: End, stop: usize) -> Step
     Step::Stop { end, stop }
 }
 
-// The step at the offset i of the token.
+// The step at the offset i of the token. The offset stays beside the slice, since the places where a literal ends are counted from the token's start.
 #[tactic(auto, unfolding(crate::specs::Decode::step_of), using(base::proofs::Reaches::rest_is))]
 pub fn step_at(s: &[u8], i: usize, mode: Mode) -> Step
     requires { i ≤ length s.now }
@@ -131,6 +131,7 @@ fn is_ordinary(b: u8) -> bool
 }
 
 // The end of the run of bytes from i on that stand for themselves. Where escapes follow each other there are none, and the first byte says it.
+// From an offset and not of a slice, as the searches of base, which it calls.
 #[tactic(auto, using(base::proofs::Reaches::reach_le, base::proofs::Reaches::reach_ge))]
 pub fn ordinary_end(s: &[u8], i: usize) -> usize
     requires { i ≤ length s.now }
@@ -219,6 +220,7 @@ impl<'a> Literal<'a> {
         }
     }
 
+    // A part at once and then a step, until one ends the literal.
     pub fn measure(&self, mode: Mode) -> Measure
         ensures { result ≡ measured 0 0 State.Between (literal_of mode self.now.text.now) }
     {

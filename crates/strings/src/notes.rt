@@ -20,7 +20,7 @@ use token::reason::Reason;
 
 // The reason of the report that a tolerant ending makes.
 #[tactic(auto, unfolding(crate::specs::Literal::end_notes))]
-fn end_report(end: End) -> Option<Reason>
+pub(crate) fn end_report(end: End) -> Option<Reason>
     ensures { MatchOption result (end_notes end ≡ []) (λ reason. end_notes end ≡ note_at_start reason ∷ []) }
 {
     match end {
@@ -31,7 +31,8 @@ fn end_report(end: End) -> Option<Reason>
     }
 }
 
-// Stores the reports of the tolerant literal that starts at a place of the text, from `at` on.
+// Stores the reports of the tolerant literal that starts at a place of the text, from `at` on. Offsets stay, since `walk` goes from a place of the whole
+// text to the next, and `put_report` stores at an index.
 fn put_tolerant_notes(text: &[u8], start: Place, out: &mut [i64], at: usize)
     requires { NotesFit M.Tolerant text.now start out.old at }
     ensures { out.new ≡ sets out.old at (string_numbers M.Tolerant text.now start.offset) }

@@ -33,8 +33,8 @@ impl Cursor<'_> {
         let column = place.column + gap;
         Place {
             offset,
-            line: place.line,
             column,
+            ..place
         }
     }
 

@@ -15,7 +15,8 @@ use token::layout::{RECORD_WIDTH, REPORT_WIDTH, Record};
 use token::place::Place;
 use token::reason::number_of;
 
-// Stores the record of a token whose string starts at `at`: there is a String's value, any other's is in the text.
+// Stores the record of a token whose string starts at `at`: there is a String's value, any other's is in the text. The buffers' parts are filled one
+// behind the other, so each of these functions gets the whole buffer and where its part begins, as `base::store` does.
 #[inline(always)]
 fn put_record(t: Token, at: usize, out: &mut [i64], i: usize)
     requires { RecordRoom at t (length out.old) i }

@@ -42,6 +42,7 @@ pub struct Token {
 }
 
 // Where the token after an offset starts: past the blanks.
+#[tactic(auto, unfolding(crate::specs::Token::start_at))]
 pub(crate) fn skip_spaces(text: &[u8], at: usize) -> usize
     ensures { result ≡ start_at text.now at }
 {
@@ -49,6 +50,7 @@ pub(crate) fn skip_spaces(text: &[u8], at: usize) -> usize
 }
 
 // The lexeme of a mark: a newline has no value, any other mark is its own.
+#[tactic(auto, unfolding(crate::specs::Helpers::mark_lexeme))]
 pub(crate) fn mark_lexeme(kind: TokenKind) -> Lexeme
     ensures { result ≡ mark_lexeme kind }
 {
@@ -74,6 +76,7 @@ pub fn next_lexeme(text: &[u8], at: usize, how: Settings) -> Found
 }
 
 // Where a precision stands in the text, or 0 where there is none, which is the number that its record has.
+#[tactic(auto, using(std::proofs::lemmas::Bool::Decides::nat_tests))]
 fn precision_at(start: usize, precision: usize, digits: usize) -> usize
     requires { start + precision < 0x8000000000000000 }
     ensures { result ≡ pick (eqb digits 0) 0 (start + precision) }
@@ -137,6 +140,7 @@ pub(crate) fn placed(start: Place, end: Place, x: Lexeme) -> Token
 }
 
 // How many bytes a token lays into the string buffer.
+#[tactic(auto, unfolding(crate::specs::Token::string_size))]
 pub fn string_size(kind: TokenKind, size: usize) -> usize
     ensures { result ≡ string_size kind size }
 {

@@ -23,6 +23,7 @@ pub struct Cursor<'a> {
 
 impl Cursor<'_> {
     // The place past the blanks, which have no newline.
+    #[tactic(auto, using(crate::proofs::FoundToken::over_blanks, crate::proofs::FoundToken::blanks_along))]
     fn past_blanks(self) -> Place
         ensures { result ≡ place_at self.entry.text.now (start_at self.entry.text.now self.entry.place.offset) }
     {

@@ -17,7 +17,7 @@ use token::kind::TokenKind;
 use triple_strings::lex::lex_triple_string;
 
 // The token of a class, at the front of s.
-#[tactic(auto, unfolding(crate::specs::Lexer::lex_by))]
+#[tactic(auto, using(crate::proofs::FirstBytes::triple_long, crate::proofs::FirstBytes::quote_first), unfolding(crate::specs::Lexer::lex_by))]
 fn lex_by(class: Class, s: &[u8], how: Settings) -> Lexeme
     requires { (0 < length s.now) × (class ≡ class_at s.now) × FromQuote s.now }
     ensures { result ≡ lex_by class (mode_of how.mode) how.limit s.now }

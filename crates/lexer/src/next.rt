@@ -89,6 +89,7 @@ fn precision_at(start: usize, precision: usize, digits: usize) -> usize
 
 // The place where a token of a kind and length ends. Only some kinds can have a newline; the walk gets and gives a place of its own, so that
 // the others' places stay in registers: without this, and the same in crate reading, boats take 52.78 instructions a byte.
+#[tactic(auto, using(token::proofs::Places::flat_along))]
 pub(crate) fn end_place(text: &[u8], start: Place, kind: TokenKind, len: usize) -> Place
     requires { Ending text.now start kind len }
     ensures { result ≡ place_at text.now (start.offset + len) }

@@ -56,26 +56,23 @@ front_after w (suc k) (b ∷ l) d =
 
 -- ---- the digits of a run's fraction
 module _ (s : List ℕ) where
-  has_digits : (i : ℕ) → secfrac_place s < i → i < secfrac_end s → has_secfrac s ≡ true
+  has_digits : secfrac_place s < secfrac_end s → has_secfrac s ≡ true
   unfolding secfrac_end
-  has_digits i g h = by_cases (has_secfrac s) (λ e. e) (λ e. let f : secfrac_end s ≡ secfrac_place s = rw e in absurd (omega arith))
+  has_digits h = by_cases (has_secfrac s) (λ e. e) (λ e. let f : secfrac_end s ≡ secfrac_place s = rw e in absurd (omega arith))
 
-  pub fraction_in : (i : ℕ) → secfrac_place s < i → i < secfrac_end s → i < length s
+  pub fraction_in : secfrac_place s < secfrac_end s → secfrac_end s ≤ length s
   unfolding secfrac_end
-  fraction_in i g h =
-      let e = has_digits i g h in
-      omega (arith, rw e at h, reach_le in_digits s (secfrac_place s + 1) (omega (arith, digit_in s e)))
+  fraction_in h =
+      let e = has_digits h in
+      rw e (reach_le in_digits s (secfrac_place s + 1) (omega (arith, digit_in s e)))
 
   pub fraction_digit : (i : ℕ) → secfrac_place s < i → i < secfrac_end s → is_digit (byte s i) ≡ true
   unfolding secfrac_end
-  fraction_digit i g h = reach_all in_digits s (secfrac_place s + 1) i (omega arith) (rw (has_digits i g h) at h)
+  fraction_digit i g h = reach_all in_digits s (secfrac_place s + 1) i (omega arith) (rw (has_digits (omega arith)) at h)
 
   fraction_length : length (secfrac_digits s) ≡ secfrac_end s - (secfrac_place s + 1)
   unfolding secfrac_digits
-  fraction_length =
-      by_cases (ltb (secfrac_place s + 1) (secfrac_end s))
-      (λ e. let l = ltb-true _ _ e in simp (length-take, length-drop) (omega (arith, fraction_in (secfrac_end s - 1) (omega arith) (omega arith))))
-      (λ e. simp (length-take, length-drop) (omega (arith, ltb-false _ _ e)))
+  fraction_length = simp (length-take, length-drop) (grind (arith, fraction_in))
 
   -- a byte of them, and 0 past the end
   fraction_byte : (j i : ℕ) → i ≡ secfrac_place s + 1 + j → i < secfrac_end s → byte (secfrac_digits s) j ≡ byte s i
@@ -92,24 +89,24 @@ module _ (s : List ℕ) where
       (λ e. let h = ltb-true i _ e in rw (fraction_byte j i refl h) (omega (arith, digit_range (byte s i) (fraction_digit i (omega arith) h))))
       (λ e. rw (fraction_past j (ltb-false i _ e)) (omega arith))
 
-  nanos_are : secfrac_nanos (secfrac_digits s) ≡ front 9 (secfrac_digits s)
+  pub nanos_are : secfrac_nanos (secfrac_digits s) ≡ front 9 (secfrac_digits s)
   unfolding secfrac_nanos
   nanos_are = omega (arith, front_after 0 9 (secfrac_digits s) fraction_digits)
 
   pub nanos_lt : secfrac_nanos (secfrac_digits s) < 10 ^ 9
   nanos_lt = rw nanos_are (front_lt 9 (secfrac_digits s) fraction_digits)
 
-  -- ---- the loop of `nanos`: n is the number of the first k places
-  module _ (n k : ℕ) (r : n ≡ front k (secfrac_digits s)) where
-    -- there is room for a digit more
-    pub places_room : k < 9 → n < 10 ^ 8
-    places_room h = let l : k ≤ 8 = omega arith in rw r (lt_of_lt_of_le (front_lt k (secfrac_digits s) fraction_digits) (pow-le-pow_right (lit< tt) l))
+  -- ---- a digit more, or a zero, for which there is room
+  module _ (k : ℕ) where
+    pub front_room : k < 9 → front k (secfrac_digits s) < 10 ^ 8
+    front_room h = let l : k ≤ 8 = omega arith in lt_of_lt_of_le (front_lt k (secfrac_digits s) fraction_digits) (pow-le-pow_right (lit< tt) l)
 
-    pub places_digit : (i : ℕ) → i ≡ secfrac_place s + 1 + k → i < secfrac_end s → n * 10 + (byte s i - 48) ≡ front (k + 1) (secfrac_digits s)
-    places_digit i e h = rw (add-one, fraction_byte k i e h, r)
+    pub front_digit : (i : ℕ) → i ≡ secfrac_place s + 1 + k → i < secfrac_end s
+        → front (k + 1) (secfrac_digits s) ≡ front k (secfrac_digits s) * 10 + (byte s i - 48)
+    front_digit i e h = rw (add-one, fraction_byte k i e h)
 
-    pub places_zero : secfrac_end s ≤ secfrac_place s + 1 + k → n * 10 ≡ front (k + 1) (secfrac_digits s)
-    places_zero h = rw (add-one, fraction_past k h, r) (omega arith)
+    pub front_zero : secfrac_end s ≤ secfrac_place s + 1 + k → front (k + 1) (secfrac_digits s) ≡ front k (secfrac_digits s) * 10
+    front_zero h = rw (add-one, fraction_past k h) (omega arith)
 
-    pub places_all : k ≡ 9 → n ≡ secfrac_nanos (secfrac_digits s)
-    places_all e = rw nanos_are (rw e at r)
+-- for the loop of `nanos`
+pub ruleset nanos_laws = (fraction_digit, fraction_in, nanos_are, front_room, front_digit, front_zero)

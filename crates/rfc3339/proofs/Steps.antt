@@ -10,11 +10,10 @@ use lib.ListN.{length, get_or-eq_default}
 use lib.IntN.{ℤ, pos, neg_ℤ}
 use Rattle.std.proofs.lemmas.Int.{ints}
 use Rattle.std.specs.Prelude.{Option, Some, None, option_and_then}
-use Rattle.std.specs.Bool.{then_some}
 use Rattle.std.specs.Ordering.{nat_cmp, is_le}
 use Rattle.std.proofs.lemmas.Bool.Decides.{nat_tests}
 use Rattle.base.specs.Choice.{pick}
-use Rattle.base.specs.Bytes.{byte, within}
+use Rattle.base.specs.Bytes.{byte}
 use Rattle.base.specs.Classes.{is_digit}
 use Rattle.base.proofs.Tests.{and-true, and-false, by_cases, no_digit, or_case, pick_same}
 use Rattle.rfc3339.specs.Calendar.{month_length, days_to}
@@ -50,18 +49,10 @@ pick_not false x y = refl
 at_most : (a b : ℕ) → is_le (nat_cmp a b) ≡ leb a b
 at_most a b = grind (arith, nat_tests)
 
-pub pair_found : (lo hi a b n : ℕ) → is_digit a ≡ true → is_digit b ≡ true → n ≡ digit_of a * 10 + digit_of b
-    → then_some (is_le (nat_cmp lo n) && is_le (nat_cmp n hi)) n ≡ pair_by lo hi a b
+pub pair_steps : (lo hi a b : ℕ) → pair_by lo hi a b ≡ (let n = digit_of a * 10 + digit_of b in pick (is_digit a && is_digit b)
+    (pick (is_le (nat_cmp lo n) && is_le (nat_cmp n hi)) (Some n) None) None)
 unfolding pair_by
-pair_found lo hi a b n f g h = rw (at_most lo n, at_most n hi, f, g, ← h) (choice (within lo hi n) n)
-  where
-    choice : (t : Bool) (x : ℕ) → then_some t x ≡ found_if t x
-    choice true x = refl
-    choice false x = refl
-
-pub pair_none : (lo hi a b : ℕ) → is_digit a && is_digit b ≡ false → pair_by lo hi a b ≡ None
-unfolding pair_by
-pair_none lo hi a b e = rw e
+pair_steps lo hi a b = simp (pick_and, at_most)
 
 pub pair_is : (lo hi : ℕ) (s : List ℕ) (i j : ℕ) → j ≡ i + 1 → pair_by lo hi (byte s i) (byte s j) ≡ found_if (is_pair lo hi s i) (pair_of s i)
 unfolding pair_by is_pair pair_of

@@ -3,7 +3,7 @@ ghost use Rattle.std.specs.Prelude.{◌≡◌, ◌≤◌};
 ghost use Rattle.rfc3339.specs.Calendar.{is_leap, month_length, days_to};
 ghost use Rattle.rfc3339.specs.Helpers.{CivilDate};
 
-// The lengths of the months, January to December: of a common year, and of a leap year. Document 01 names the form, rows by leap year.
+// The lengths of the months, January to December: of a common year, and of a leap year. Document 01 names this form.
 pub const MONTH_LENGTHS: [[u8; 12]; 2] = [
     [31, 28, 31, 30, 31, 30, 31, 31, 30, 31, 30, 31],
     [31, 29, 31, 30, 31, 30, 31, 31, 30, 31, 30, 31],

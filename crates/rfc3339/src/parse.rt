@@ -16,8 +16,8 @@ pub struct Instant {
 // The seconds from 0000-01-01T00:00:00Z to 1970-01-01T00:00:00Z.
 const EPOCH: i64 = 62167219200;
 
-// The seconds from 1970-01-01T00:00:00Z, `local` being those of the date and time as written from 0000-01-01T00:00:00 on.
-// The cast loses nothing, as is required: `try_from` would add a case that cannot come.
+// The seconds from 1970-01-01T00:00:00Z, `local` being those of the date and time as written from 0000-01-01T00:00:00 on;
+// the cast loses nothing, as is required.
 fn unix_seconds(local: usize, offset: i64) -> i64
     requires { SecondsFit local offset }
     ensures { result ≡ unix_seconds local offset }

@@ -13,7 +13,7 @@ use base::peek;
 // How many digits a second's nanoseconds have.
 const NANO_DIGITS: usize = 9;
 
-// The number of a digit. Under a `requires` and no `Option`: an `unwrap` in `nanos` tests again when it runs, five instructions a digit.
+// The number of a digit. As an Option of any byte it costs five instructions for each digit of a fraction.
 #[tactic(auto, using(base::proofs::Tests::digit_range))]
 fn digit(b: u8) -> u8
     requires { is_digit b ≡ true }
@@ -24,9 +24,9 @@ fn digit(b: u8) -> u8
 }
 
 // The number of two digits, where it is from `least` to `most`. A timestamp calls it six times or eight; as a function of its own it made them a tenth
-// slower.
+// slower. A product of bytes, made wide afterwards, costs two instructions a call.
 #[inline(always)]
-#[tactic(auto, using(crate::proofs::Steps::pair_none))]
+#[tactic(auto, using(crate::proofs::Steps::pair_steps))]
 fn pair(a: u8, b: u8, least: usize, most: usize) -> Option<usize>
     ensures number { result ≡ pair_by least most a b }
     ensures range { IfSome result (λ n. (least ≤ n) × (n ≤ most)) }
@@ -34,7 +34,7 @@ fn pair(a: u8, b: u8, least: usize, most: usize) -> Option<usize>
     if !(is_digit(a) & is_digit(b)) {
         return None;
     }
-    let n = usize::from(digit(a) * 10 + digit(b));
+    let n = usize::from(digit(a)) * 10 + usize::from(digit(b));
     (least..=most).contains(&n).then_some(n)
 }
 
@@ -53,7 +53,7 @@ pub fn full_date(s: &[u8]) -> Option<usize>
     Some(days_from_civil(year, month, day))
 }
 
-// The hour, of one digit or two.
+// The hour, of one digit or two. Here and in `FullTime` bytes are read by place: patterns of slices were tried, and left fourteen goals open.
 #[tactic(auto, using(crate::proofs::Steps::hour_steps))]
 fn hour(s: &[u8]) -> Option<usize>
     ensures number { result ≡ hour_at s.now }
@@ -116,7 +116,7 @@ impl<'a> FullTime<'a> {
         }
     }
 
-    // The seconds of the time of day. By `peek`: of slice patterns on `get(h..)` fourteen goals stayed open, here and in `time_offset`.
+    // The seconds of the time of day.
     #[tactic(auto, using(crate::proofs::Steps::time_steps))]
     pub fn partial_time(&self) -> Option<usize>
         ensures seconds { result ≡ partial_time self.now.run.now }
@@ -134,7 +134,7 @@ impl<'a> FullTime<'a> {
     }
 
     // The nanoseconds of the fraction: its first nine digits, and zeros where there are fewer.
-    #[tactic(auto, using(crate::proofs::Nanos::fraction_digit))]
+    #[tactic(auto, using(crate::proofs::Nanos::nanos_laws))]
     pub fn nanos(&self) -> u32
         ensures { result ≡ secfrac_nanos (secfrac_digits self.now.run.now) }
     {
@@ -167,6 +167,7 @@ impl<'a> FullTime<'a> {
         }
         let hour = pair(peek(s, z + 1), peek(s, z + 2), 0, 24)?;
         let minute = pair(peek(s, z + 4), peek(s, z + 5), 0, 60)?;
+        // At most 90,000, so that the cast loses nothing.
         let seconds = (hour * 3600 + minute * 60) as i64;
         Some(if mark == b'-' { -seconds } else { seconds })
     }

@@ -173,7 +173,7 @@ fn print_place(place: Place) {
     print_row(b"place", &[place.offset, place.line, place.column]);
 }
 
-fn print_date(seconds: i64, nanos: usize) {
+fn print_date(seconds: i64, nanos: u32) {
     print(b"date ");
     print_number(seconds);
     print(b" ");

@@ -1,3 +1,2 @@
 mod Passed
 mod Given
-mod Instants

@@ -1,8 +1,5 @@
 -- Helper definitions, for proofs and inner contracts alone: the numbers of an answer, and numbers that fit one.
-use Rattle.std.specs.Prelude.{List, [], ◌∷◌, ℕ, ◌<◌, get_or, Option, Some, None}
-use Rattle.rfc3339.specs.declared.parse.Instant.{Instant}
-
--- Types that other files explain: `Instant` in rfc3339/specs/Instant.antt.
+use Rattle.std.specs.Prelude.{List, [], ◌∷◌, ℕ, ◌<◌, get_or}
 
 -- the first six of some numbers, with zeros where there are fewer
 abbrev pub padded : List ℕ → List ℕ
@@ -19,8 +16,3 @@ no_values e = []
 abbrev pub Fit63 : List ℕ → Type 0
 Fit63 [] = Unit {0}
 Fit63 (v ∷ vs) = (v < 0x8000000000000000) × Fit63 vs
-
--- the nanoseconds of an instant, or 0
-abbrev pub instant_nanos : Option Instant → ℕ
-instant_nanos (Some i) = i.nanos
-instant_nanos None = 0

@@ -7,7 +7,7 @@ ghost use Rattle.reading.specs.Answers.{answer_values, counts_values, token_valu
 ghost use Rattle.reading.specs.Refusals.{refusal_values};
 ghost use Rattle.pxf.specs.Texts.{six_of};
 ghost use Rattle.pxf.specs.Timestamps.{instant_numbers};
-ghost use Rattle.pxf.specs.Helpers.{padded, one_of, no_values, Fit63, instant_nanos};
+ghost use Rattle.pxf.specs.Helpers.{padded, one_of, no_values, Fit63};
 
 use base::answer::Numbered;
 use reading::counts::Counts;
@@ -128,11 +128,10 @@ pub fn give<T: Values, E: Values + Numbered>(r: Result<T, E>, answer: &mut [i64;
 
 // The values of an instant. Its seconds may lie below 0, so that it is no `Values`.
 pub fn of_instant(r: Option<Instant>) -> [i64; 6]
-    requires { instant_nanos r < 0x8000000000000000 }
     ensures { result ≡ instant_numbers r }
 {
     match r {
-        Some(Instant { seconds, nanos }) => [1, seconds, nanos as i64, 0, 0, 0],
+        Some(Instant { seconds, nanos }) => [1, seconds, i64::from(nanos), 0, 0, 0],
         None => [0, 0, 0, 0, 0, 0],
     }
 }

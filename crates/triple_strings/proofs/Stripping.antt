@@ -4,7 +4,7 @@ use mathlib.Core.Path.{◌≡◌, refl, ap, sym, ◌∙◌}
 use mathlib.Core.Bool.{Bool, true, false, ◌&&◌, cond}
 use mathlib.Core.List.{List, [], ◌∷◌, ◌++◌, map, append-nil}
 use mathlib.Core.Logic.{⊎_elim}
-use Prim.Native.Nat.{ℕ, suc, ◌+◌, ◌≤◌, ◌<◌}
+use Prim.Native.Nat.{ℕ, suc, ◌+◌, ◌-◌, ◌≤◌, ◌<◌}
 use denote.Ref.{Bor}
 use denote.Param.Members.{Mut}
 use Rattle.std.specs.Fn.{ComputesKey, Called}
@@ -13,7 +13,7 @@ use Rattle.std.specs.Prelude.{min, Option, None, Some, MatchOption}
 use Rattle.std.specs.Option.{unwrap_or}
 use Rattle.std.proofs.lemmas.Bool.{cases_lt}
 use native.Mathlib.Omega.{arith}
-use borrow.Author.Tests.{eqb-true}
+use borrow.Author.Tests.{eqb-true, eq-eqb, ne_eqb}
 use lib.Dec.{eqb}
 use Rattle.std.proofs.lemmas.List.{drop-append-le, get_or-take}
 use Rattle.std.proofs.Common.{append_assoc}
@@ -24,8 +24,10 @@ use Rattle.std.proofs.lemmas.List.Elements.{All-head, All-tail}
 use Rattle.std.proofs.lemmas.List.Splits.{slice_split_none, slice_split_at}
 use Rattle.base.specs.Choice.{pick}
 use lib.Seq.{take-suc, take_all, length-take-le}
+use Rattle.base.specs.Bytes.{byte}
+use Rattle.base.proofs.Reaches.{rest_is}
 use Rattle.base.proofs.Stores.{empty}
-use Rattle.base.proofs.Tests.{and-true, and_right, pick_case, true_false}
+use Rattle.base.proofs.Tests.{and_right, pick_case, true_false}
 use Rattle.triple_strings.specs.Dedent.{first, others, join, join_rest, last_of, init_of, blank, prefix, strip, unlead, unindent, dedent}
 use Rattle.triple_strings.proofs.QuoteSearch.{turned}
 use Rattle.triple_strings.specs.Helpers.{lines, stripped, OneLine, LastLine}
@@ -211,11 +213,24 @@ init_snoc : (l x : List ℕ) (ls : List (List ℕ)) → init_of l (ls ++ (x ∷ 
 init_snoc l x [] = refl
 init_snoc l x (m ∷ ls) = ap {B = List (List ℕ)} (λ r. l ∷ r) (init_snoc m x ls)
 
--- one leading newline is an indent, too
-unlead_is : (raw : List ℕ) → strip (0x0A ∷ []) raw ≡ unlead raw
-unfolding strip unlead prefix
-unlead_is [] = refl
-unlead_is (x ∷ raw) = rw (turned 0x0A x, and-true)
+-- one leading newline
+pub unlead_newline : (t : List ℕ) → 1 ≤ length t → byte t 0 ≡ 0x0A → take (length t - 1) (drop 1 t) ≡ unlead t
+unfolding unlead
+unlead_newline [] h e = absurd (omega arith)
+unlead_newline (x ∷ t) h e = rw (eq-eqb x 0x0A e) (rest_is (x ∷ t) 1)
+
+pub unlead_other : (t : List ℕ) → (byte t 0 ≡ 0x0A → ⊥) → t ≡ unlead t
+unfolding unlead
+unlead_other [] e = refl
+unlead_other (x ∷ t) e = rw (ne_eqb x 0x0A e)
+
+pub unlead_short : (t : List ℕ) → length t < 1 → t ≡ unlead t
+unfolding unlead
+unlead_short [] h = refl
+unlead_short (x ∷ t) h = absurd (omega arith)
+
+-- what `unlead` needs at each return
+pub ruleset unleading = (unlead_newline, unlead_other, unlead_short)
 
 module _ {s body last : List ℕ} (u : LastLine s body last) where
   -- the last line, and the others
@@ -237,10 +252,10 @@ module _ {s body last : List ℕ} (u : LastLine s body last) where
           let o : others s ≡ [] = cc in
           rw (e.0, f, o, strip_nil) (refl, refl)
 
-  module _ (raw : List ℕ) (e : s ≡ strip (0x0A ∷ []) raw) where
+  module _ (raw : List ℕ) (e : s ≡ unlead raw) where
     is : dedent raw ≡ pick (blank 0 last) (stripped last body) s
     unfolding dedent unindent
-    is = rw (← unlead_is raw, ← e, cut.0, cut.1)
+    is = rw (← e, cut.0, cut.1)
 
     pub dedent_blank : true ≡ blank 0 last → stripped last body ≡ dedent raw
     dedent_blank h = sym (is ∙ rw (← h))

@@ -1,7 +1,7 @@
 // The dedent of a triple-quoted string: measured, and written.
 ghost use Rattle.std.specs.Prelude.{◌≡◌, ◌≤◌, length};
 ghost use Rattle.std.proofs.lemmas.List.Edits.{sets};
-ghost use Rattle.triple_strings.specs.Dedent.{dedent};
+ghost use Rattle.triple_strings.specs.Dedent.{unlead, dedent};
 ghost use Rattle.triple_strings.specs.Helpers.{stripped, OneLine};
 
 use crate::lines::{is_blank, split_last, strip};
@@ -14,12 +14,23 @@ pub struct Dedent<'a> {
     ghost one_line: { OneLine indent.now },
 }
 
+// Without one leading newline.
+#[tactic(auto, using(crate::proofs::Stripping::unleading))]
+fn unlead(raw: &[u8]) -> &[u8]
+    ensures { result.now ≡ unlead raw.now }
+{
+    match raw {
+        [b'\n', rest @ ..] => rest,
+        _ => raw,
+    }
+}
+
 impl<'a> Dedent<'a> {
-    // A leading newline goes. A blank last line is the indent.
+    // A blank last line is the indent.
     pub fn of(raw: &'a [u8]) -> Self
         ensures { stripped result.indent.now result.body.now ≡ dedent raw.now }
     {
-        let text = strip(b"\n", raw);
+        let text = unlead(raw);
         let (body, last) = split_last(text);
         if is_blank(last) {
             Self { body, indent: last }

@@ -3,14 +3,14 @@
 use mathlib.Core.Path.{◌≡◌, refl, ap, sym, ◌∙◌}
 use mathlib.Core.Bool.{true, false, ◌&&◌, ◌||◌}
 use mathlib.Core.List.{List, [], ◌∷◌, ◌++◌}
-use Prim.Native.Nat.{ℕ, zero, suc, ◌-◌, ◌≤◌}
+use Prim.Native.Nat.{ℕ, zero, suc, ◌+◌, ◌-◌, ◌≤◌, ◌<◌}
 use native.Mathlib.Omega.{arith}
 use borrow.Author.Tests.{not-true, not-false, eqb-true, eqb-false}
 use lib.Dec.{ltb, eqb}
-use lib.ListN.{length, drop, length-drop}
-use lib.Seq.{drop-append_seam}
-use Rattle.std.specs.List.{fold}
-use Rattle.base.specs.Bytes.{within}
+use lib.ListN.{length, drop, length-drop, drop_of_length-le}
+use lib.Seq.{drop-append_seam, drop-cons}
+use native.Mathlib.Numerals.{add-one}
+use Rattle.base.specs.Bytes.{byte, within}
 use Rattle.base.proofs.Tests.{and_left, and_right, by_cases, true_false, outside}
 use Rattle.utf8.specs.Grammar.{Char, Octets, none, more, char_size, valid_to}
 use Rattle.utf8.specs.Check.{is_tail}
@@ -38,11 +38,15 @@ module _ (lo hi n b : ℕ) where
     pub push_more : (n ≡ 0 → ⊥) → Wants 0x80 0xBF (n - 1) ≡ push (Wants lo hi n) b
     push_more z = let s : n ≡ suc (n - 1) = omega arith in rw (push_in, ap tails_left s)
 
--- `push_all` is a fold
-pub push_fold : (t : State) (s : List ℕ) → push_all t s ≡ fold push t s
-unfolding push_all
-push_fold t [] = refl
-push_fold t (b ∷ s) = push_fold (push t b) s
+-- the loop of `push_all`
+module _ (s : List ℕ) (k : ℕ) (t : State) where
+  pub push_turn : (u : State) → k < length s → u ≡ push t (byte s k) → push_all u (drop (k + 1) s) ≡ push_all t (drop k s)
+  unfolding push_all
+  push_turn u h e = rw (e, add-one k, drop-cons s k 0 h)
+
+  pub push_end : length s ≤ k → push_all t (drop k s) ≡ t
+  unfolding push_all
+  push_end h = rw (drop_of_length-le s h)
 
 -- the bytes of two lists, one after the other
 pub push_append : (t : State) (a b : List ℕ) → push_all t (a ++ b) ≡ push_all (push_all t a) b

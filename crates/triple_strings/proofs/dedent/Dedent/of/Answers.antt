@@ -7,6 +7,6 @@ use Rattle.triple_strings.proofs.dedent.Dedent.of.Goals as goal
 pub returns : goal.returns
 returns c =
     elim c.if-is_blank.branch [
-      | then-is_blank w ↦ rw w.result-is (dedent_blank c.split_last.ensures c.args.raw.now c.strip-text.ensures (sym w.if-is_blank.true ∙ c.is_blank.ensures))
-      | else-is_blank w ↦ rw w.result-is (dedent_plain c.split_last.ensures c.args.raw.now c.strip-text.ensures (sym w.if-is_blank.false ∙ c.is_blank.ensures))
+      | then-is_blank w ↦ rw w.result-is (dedent_blank c.split_last.ensures c.args.raw.now c.unlead-text.ensures (sym w.if-is_blank.true ∙ c.is_blank.ensures))
+      | else-is_blank w ↦ rw w.result-is (dedent_plain c.split_last.ensures c.args.raw.now c.unlead-text.ensures (sym w.if-is_blank.false ∙ c.is_blank.ensures))
     ]

@@ -1,12 +1,10 @@
--- `push_all` meets its contract: it is the fold of `push`. Assumes nothing.
-use Rattle.std.proofs.Common.{rules, ◌∙◌, sym}
-use Rattle.std.proofs.lemmas.Iterator.{YieldsList-from_slice}
-use Rattle.std.proofs.lemmas.Iterator.Consumers.{fold_from_yields_List}
-use Rattle.utf8.specs.State.{push}
-use Rattle.utf8.proofs.States.{push_fold}
+-- `push_all` meets its contract: the bytes pushed and the bytes left make the whole. Assumes nothing.
+use mathlib.Core.Path.{sym, ◌∙◌}
+use Rattle.utf8.proofs.States.{push_turn, push_end}
 use Rattle.utf8.proofs.state.State.push_all.Goals as goal
 
+pub loop-b-preserved : goal.loop-b-preserved
+loop-b-preserved c = push_turn _ _ _ _ c.loop-b-test.true c.push-state.ensures ∙ c.loop-b.invariant
+
 pub returns : goal.returns
-returns c =
-    fold_from_yields_List _ push _ _ c.fold.ensures.ran (YieldsList-from_slice c.args.bytes.now c.iter.ensures.rest) (λ a x r q k. search rules)
-    ∙ sym (push_fold c.args.self c.args.bytes.now)
+returns c = sym (push_end _ _ _ c.loop-b-test.false) ∙ c.loop-b.invariant

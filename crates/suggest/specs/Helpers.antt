@@ -21,7 +21,7 @@ use Rattle.suggest.specs.Suggestions.{seen_in, first_byte, byte_count, entry_by,
 use Rattle.suggest.specs.declared.pieces.Around.{Around}
 use Rattle.suggest.specs.declared.pieces.Side.{Side}
 
--- Types of the code (src/pieces.rt). `Side`, what is `seen` on one side of a `cut`; `Around`, what is so `before` and `behind` the piece of a text that changes.
+-- Types of the code (src/pieces.rt). `Side`, what is `seen` on one side of a `cut`; `Around`, what is so `before` and `behind` the piece that changes.
 -- Types that other files explain: `Lexeme` in lexeme/specs/Lexeme.antt; `Suggestion` in suggestion_list/specs/Order.antt.
 
 -- ---- what is seen, without a reading

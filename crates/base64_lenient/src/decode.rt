@@ -13,9 +13,9 @@ use base::answer::Numbered;
 #[derive(Clone, Copy, PartialEq, Eq, Debug)]
 pub enum Refusal {
     // The run is not UTF-8 or does not decode.
-    BadRun,
+    BadRun = 13,
     // The buffer is shorter than the decoded bytes.
-    BufferShort,
+    BufferShort = 14,
 }
 
 impl Numbered for Refusal {
@@ -23,10 +23,7 @@ impl Numbered for Refusal {
 
     // Document 02's number.
     fn number(self) -> u8 {
-        match self {
-            Refusal::BadRun => 13,
-            Refusal::BufferShort => 14,
-        }
+        self as u8
     }
 }
 

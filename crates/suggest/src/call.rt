@@ -11,9 +11,9 @@ use utf8::check::check;
 #[derive(Clone, Copy, PartialEq, Eq, Debug)]
 pub enum Refusal {
     // The run is empty, too long or not UTF-8.
-    BadRun,
+    BadRun = 11,
     // The list is shorter than its entries.
-    ListShort,
+    ListShort = 12,
 }
 
 impl Numbered for Refusal {
@@ -21,10 +21,7 @@ impl Numbered for Refusal {
 
     // Document 02's number. Each refusal has an `impl` of its own, for cases and numbers of its own.
     fn number(self) -> u8 {
-        match self {
-            Refusal::BadRun => 11,
-            Refusal::ListShort => 12,
-        }
+        self as u8
     }
 }
 

@@ -18,22 +18,18 @@ use token::layout::{RECORD_WIDTH, Record};
 #[derive(Clone, Copy, PartialEq, Eq, Debug)]
 pub enum ReadRefusal {
     // The frame of the file is wrong.
-    BadFile,
+    BadFile = 7,
     // The records break the record rules.
-    BadRecords,
+    BadRecords = 8,
     // The token slice is too short.
-    NoRoom,
+    NoRoom = 4,
 }
 
 impl Numbered for ReadRefusal {
     ghost number_of = { read_refusal_number };
 
     fn number(self) -> u8 {
-        match self {
-            ReadRefusal::BadFile => 7,
-            ReadRefusal::BadRecords => 8,
-            ReadRefusal::NoRoom => 4,
-        }
+        self as u8
     }
 }
 

@@ -15,22 +15,18 @@ use base::answer::Numbered;
 #[derive(Clone, Copy, PartialEq, Eq, Debug)]
 pub enum WriteRefusal {
     // The records break the record rules, or the slice is too short for them.
-    BadRecords,
+    BadRecords = 8,
     // A column above 65,535.
-    LongColumn,
+    LongColumn = 9,
     // The buffer is too short.
-    NoRoom,
+    NoRoom = 10,
 }
 
 impl Numbered for WriteRefusal {
     ghost number_of = { write_refusal_number };
 
     fn number(self) -> u8 {
-        match self {
-            WriteRefusal::BadRecords => 8,
-            WriteRefusal::LongColumn => 9,
-            WriteRefusal::NoRoom => 10,
-        }
+        self as u8
     }
 }
 

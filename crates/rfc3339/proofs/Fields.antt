@@ -1,4 +1,4 @@
--- For `full_date`, Steps and Bounds: how large the numbers of each rule are where it holds, and the seconds by the mark of the offset. By the
+-- For `full_date`, Steps and Bounds: how large the numbers of each rule are where it holds, and the seconds of a local time and its offset. By the
 -- ranges of pairs of digits, and by the law of days. Assumes nothing.
 use mathlib.Core.Path.{◌≡◌, sym, ◌∙◌}
 use mathlib.Core.Bool.{true, ◌&&◌}

@@ -89,12 +89,12 @@ module _ (s : List ℕ) where
       (λ e. let h = ltb-true i _ e in rw (fraction_byte j i refl h) (omega (arith, digit_range (byte s i) (fraction_digit i (omega arith) h))))
       (λ e. rw (fraction_past j (ltb-false i _ e)) (omega arith))
 
-  pub nanos_are : secfrac_nanos (secfrac_digits s) ≡ front 9 (secfrac_digits s)
+  pub places_all : secfrac_nanos (secfrac_digits s) ≡ front 9 (secfrac_digits s)
   unfolding secfrac_nanos
-  nanos_are = omega (arith, front_after 0 9 (secfrac_digits s) fraction_digits)
+  places_all = omega (arith, front_after 0 9 (secfrac_digits s) fraction_digits)
 
   pub nanos_lt : secfrac_nanos (secfrac_digits s) < 10 ^ 9
-  nanos_lt = rw nanos_are (front_lt 9 (secfrac_digits s) fraction_digits)
+  nanos_lt = rw places_all (front_lt 9 (secfrac_digits s) fraction_digits)
 
   -- ---- a digit more, or a zero, for which there is room
   module _ (k : ℕ) where
@@ -109,4 +109,4 @@ module _ (s : List ℕ) where
     front_zero h = rw (add-one, fraction_past k h) (omega arith)
 
 -- for the loop of `nanos`
-pub ruleset nanos_laws = (fraction_digit, fraction_in, nanos_are, front_room, front_digit, front_zero)
+pub ruleset nanos_laws = (fraction_digit, fraction_in, places_all, front_room, front_digit, front_zero)

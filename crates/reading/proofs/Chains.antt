@@ -34,7 +34,8 @@ use Rattle.reading.specs.Answers.{is_place}
 use Rattle.reading.specs.Chain.{of_one, Call, with_value, moved_by, Calls, last, more, ChainGivesWhole, ChainRuns}
 use Rattle.reading.proofs.NextToken.{string_at, reports_at, numbers_at, Read, string_few, reads, end_offset}
 use Rattle.reading.proofs.From.{from_eof, from_more, by_tokens}
-use Rattle.reading.proofs.Rows.{same_record, same_reports, records_length, one_strings, one_reports, one_count, one_rows, held_records, held_strings, held_reports}
+use Rattle.reading.proofs.Rows.{same_record, same_reports, records_length, one_strings, one_reports, one_count, one_rows}
+use Rattle.reading.proofs.Rows.{held_records, held_strings, held_reports}
 use Rattle.reading.proofs.Refusals.{fits, room_answer}
 use Rattle.reading.proofs.Places.{place_is, is_place_lem}
 use Rattle.reading.proofs.TokenAnswers.{done}

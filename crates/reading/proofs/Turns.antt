@@ -248,6 +248,7 @@ module _ {m : Reading} {limit : ℕ} {text : List ℕ} {b b' : Buffers} {p : Pla
           let rest = tokens_from m limit text t.end.offset in
           let i : (n.tokens + 1) * record_width ≡ n.tokens * record_width + record_width = omega arith in
           let bytes = r.string in
+          let next : ℕ = n.strings + string_size t.kind t.size in
           let j : (n.reports + t.reports) * report_width ≡ n.reports * report_width + length (numbers_at m limit text t) =
           omega (arith, numbers_length m limit text p.offset w.walkable.inside t e) in
           record {
@@ -257,7 +258,7 @@ module _ {m : Reading} {limit : ℕ} {text : List ℕ} {b b' : Buffers} {p : Pla
             room = w.room;
             records =
                 rw (d.of_record, i)
-                (sym (sets_append b'.tokens.now (n.tokens * record_width) (record_numbers (record_of n.strings t)) (record_rows (records_of (n.strings + string_size t.kind t.size) rest)))
+                (sym (sets_append b'.tokens.now (n.tokens * record_width) (record_numbers (record_of n.strings t)) (record_rows (records_of next rest)))
                 ∙ (rw (more, records_more m limit text t rest n.strings) at w.records));
             strings =
                 rw (d.of_string, ← bytes)

@@ -44,9 +44,6 @@ pub record Blanking (t : List ℕ) (i : ℕ) : Type 0 where
   pub inside : i ≤ length t
   pub is : blank 0 t ≡ blank 0 (drop i t)
 
-pub blanking_first : (t : List ℕ) → Blanking t 0
-blanking_first t = record { inside = omega arith; is = refl }
-
 module _ (t : List ℕ) (i : ℕ) (u : Blanking t i) where
   pub blanking_end : length t ≤ i → true ≡ blank 0 t
   blanking_end h = sym (u.is ∙ rw (drop_of_length-le t h) blank_nil)
@@ -73,9 +70,6 @@ module _ (t : List ℕ) (i : ℕ) (u : Blanking t i) where
 
       pub blanking_fits : length t < 2 ^ 64 → Fits w64 (i + n)
       blanking_fits l = omega (arith, taken)
-
-      pub blanking_less : length t - (i + n) < length t - i
-      blanking_less = omega (arith, taken, more)
 
       pub blanking_on : Blanking t (i + n)
       blanking_on =

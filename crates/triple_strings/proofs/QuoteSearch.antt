@@ -98,9 +98,6 @@ pub record Finding (t : List ℕ) (i : ℕ) : Type 0 where
   pub inside : i ≤ length t
   pub is : until_quotes t ≡ i + until_quotes (drop i t)
 
-pub finding_first : (t : List ℕ) → Finding t 0
-finding_first t = omega arith
-
 module _ (t : List ℕ) (i : ℕ) (u : Finding t i) where
   step : i < length t → quotes (drop i t) ≡ false → Finding t (suc i)
   step h e =

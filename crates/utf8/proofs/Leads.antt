@@ -37,9 +37,6 @@ length_case P a f g h =
     pick_case P (ltb a 0xE0) (λ e. f (ltb-true a 0xE0 e))
     (λ e. pick_case P (ltb a 0xF0) (λ u. g (ltb-true a 0xF0 u)) (λ u. h (ltb-false a 0xF0 u)))
 
-pub length_low : (a : ℕ) → 2 ≤ length_of a
-length_low a = length_case (λ n. 2 ≤ n) a (λ h. lit≤ tt) (λ h. lit≤ tt) (λ h. lit≤ tt)
-
 pub length_high : (a : ℕ) → length_of a ≤ 4
 length_high a = length_case (λ n. n ≤ 4) a (λ h. lit≤ tt) (λ h. lit≤ tt) (λ h. lit≤ tt)
 

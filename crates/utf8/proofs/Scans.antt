@@ -16,7 +16,7 @@ use Rattle.base.proofs.Reaches.{rest_is, reach_one, reach_ge, reach_le}
 use Rattle.base.proofs.Walks.{past_step, past_stop, past_end}
 use Rattle.utf8.specs.Grammar.{char_size, valid_to}
 use Rattle.utf8.specs.Helpers.{in_ascii}
-use Rattle.utf8.specs.Onward.{Onward, Stops, Passed}
+use Rattle.utf8.specs.Onward.{Onward, Stops}
 use Rattle.utf8.specs.Check.{check_of, Checked}
 use Rattle.utf8.specs.declared.check.Utf8Error.{Utf8Error}
 use Rattle.utf8.proofs.Chars.{size_le}
@@ -43,9 +43,6 @@ module _ (s : List ℕ) (at i : ℕ) (u : Onward s at i) where
       let w : Onward s i (reach in_ascii s i) =
       record { later = reach_ge in_ascii s i; inside = reach_le in_ascii s i u.inside; same = reach_past in_ascii (λ a b t. t) s i } in
       rw e (onward_then s at i (reach in_ascii s i) u w)
-
-  pub passed_end : (e : ℕ) → e ≤ i → Passed s at e (Ok i)
-  passed_end e g = (u, g)
 
   module _ (e : ℕ) (h : e ≤ length s) (l : i < e) where
     pub run_less : (r : ℕ) → r ≡ reach in_ascii s i → byte s i < 0x80 → length s - r < length s - i

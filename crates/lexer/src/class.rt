@@ -58,7 +58,8 @@ pub fn mark(b: u8) -> Option<TokenKind>
     }
 }
 
-// The class of the token at the front of s. The bytes after the first are looked at only where they count.
+// The class of the token at the front of s. The bytes after the first are looked at only where they count; as slice patterns, which test the length first,
+// four goals stay open.
 #[tactic(auto, unfolding(crate::specs::Lexer::class_at, crate::specs::Lexer::class_of, crate::specs::Helpers::single_of))]
 pub fn classify(s: &[u8]) -> Class
     ensures { result ≡ class_at s.now }

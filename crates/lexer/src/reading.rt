@@ -4,7 +4,8 @@ ghost use Rattle.lexer.specs.Reading.{mode_of};
 
 use lexeme::Mode;
 
-// A reading is strict or tolerant. A type of its own beside the lexers' `Mode`: with request #114 a reading has a third case, and the lexers keep two.
+// A reading is strict or tolerant. A type of its own beside the lexers' `Mode`: the modes of a call are part of the interface, and can be more than the two
+// ways in which a lexer reads.
 #[derive(Clone, Copy, PartialEq, Eq, Debug)]
 pub enum Reading {
     Strict,

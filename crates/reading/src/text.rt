@@ -23,6 +23,7 @@ fn measure(text: &[u8], how: Settings) -> Counts
 {
     let mut counts = Counts::default();
     let mut at = 0;
+    // A `loop`, as in `write`: the step is the length of the token that was found.
     'tokens: loop {
         let found = next_lexeme(text, at, how);
         let x = found.lexeme;

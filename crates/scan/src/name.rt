@@ -35,6 +35,7 @@ fn directive(name: &[u8]) -> Lexeme
     ensures { result ≡ directive name.now (length name.now + 1) }
 {
     let len = name.len() + 1;
+    // Before the `match`: in its last arm the proof has nineteen ways to it, which stay open.
     let other = Lexeme::extent(TokenKind::AtDirective, len, 1, name.len(), 0);
     match name {
         b"type" => Lexeme::whole(TokenKind::AtType, len),

@@ -1,4 +1,4 @@
--- For the loop of `measure_literal`: what is left to measure from here on, with what is measured, makes the whole. By the parts of the text, one
+-- For the loop of `Literal::measure`: what is left to measure from here on, with what is measured, makes the whole. By the parts of the text, one
 -- turn at a time. Assumes nothing.
 use mathlib.Core.Path.{◌≡◌, refl, sym, ap, ◌∙◌}
 use mathlib.Core.Bool.{Bool, true, false}
@@ -70,7 +70,7 @@ pub quote_stop : (m : Mode) (s : List ℕ) (e x : ℕ) → x ≡ byte s e → x 
 unfolding piece_of step_of
 quote_stop m s e x is q = rw (drop-cons s e 0 (quote_in s e (sym is ∙ q)), sym is ∙ q)
 
--- ---- `measure_literal`
+-- ---- `Literal::measure`
 
 -- at i: the bytes and the reports that are counted are fewer than the bytes of text before i
 pub record Measuring (m : Mode) (s : List ℕ) (i count reports : ℕ) (state : State) : Type 0 where

@@ -71,11 +71,7 @@ fn end_of(s: &[u8], end: End, stop: usize) -> usize
 fn utf8_reason(state: State) -> Option<Reason>
     ensures { result ≡ pick (is_between state) None (Some R.StringNotUtf8) }
 {
-    if state.is_between() {
-        None
-    } else {
-        Some(Reason::StringNotUtf8)
-    }
+    (!state.is_between()).then_some(Reason::StringNotUtf8)
 }
 
 // The token of what is measured: a String, or Illegal for its reason.

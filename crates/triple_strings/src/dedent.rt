@@ -50,6 +50,7 @@ impl<'a> Dedent<'a> {
         if self.indent.is_empty() {
             return self.body.len();
         }
+        // No `sum` of a `map`, which asks that the sum fits before the first line is seen.
         let mut size = 0;
         for line in self.body.split_inclusive(|b| *b == b'\n') {
             size += strip(self.indent, line).len();
@@ -67,6 +68,7 @@ impl<'a> Dedent<'a> {
             base::copy(out, 0, self.body);
             return;
         }
+        // An index: `copy` stores at one, and what is left of a lent slice would have to be lent anew for each line.
         let mut end = 0;
         for line in self.body.split_inclusive(|b| *b == b'\n') {
             let kept = strip(self.indent, line);

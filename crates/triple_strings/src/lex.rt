@@ -16,10 +16,7 @@ use utf8::check::char_end;
 fn open_triple_end(s: &[u8]) -> usize
     ensures { result ≡ open_triple_end s.now }
 {
-    if s.len() < 5 {
-        return char_end(s, 3);
-    }
-    char_end(s, s.len() - 2)
+    char_end(s, s.len().saturating_sub(2).max(3))
 }
 
 // The string at the front of `s`, which begins with three quotes.

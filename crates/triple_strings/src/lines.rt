@@ -23,6 +23,7 @@ pub fn is_blank(t: &[u8]) -> bool
 pub fn split_last(t: &[u8]) -> (&[u8], &[u8])
     ensures { LastLine t.now result.0.now result.1.now }
 {
+    // By hand: `rposition` leaves goals that speak of the iterator's own steps, which did not close.
     for k in (0..t.len()).rev() {
         if t[k] == b'\n' {
             return (&t[..k], &t[k + 1..]);

@@ -10,7 +10,7 @@ pub fn at_quotes(t: &[u8]) -> bool
     t.starts_with(b"\"\"\"")
 }
 
-// How many bytes stand before the first three quotes; all of them where there are none. A byte that is no quote rules out three starts.
+// How many bytes stand before the first three quotes; all of them where there are none, since the raw bytes end there then. A byte that is no quote rules out three starts.
 #[tactic(auto, using(crate::proofs::QuoteSearch::finding))]
 pub fn find_quotes(t: &[u8]) -> usize
     ensures { result ≡ until_quotes t.now }

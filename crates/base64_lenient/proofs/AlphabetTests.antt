@@ -1,17 +1,17 @@
 -- For the tests of alphabet.rt: each agrees with the alphabets' lists at every byte, by one test that antt computes. Assumes nothing.
 use mathlib.Core.Path.{◌≡◌}
-use mathlib.Core.Bool.{◌&&◌, ◌||◌}
+use mathlib.Core.Bool.{◌||◌}
 use Prim.Native.Nat.{ℕ, ◌<◌}
-use lib.Bits.{bit_or}
-use lib.Dec.{eqb, leb}
+use Rattle.std.specs.Char.{is_ascii_alphanumeric}
+use lib.Dec.{eqb}
 use Rattle.base.proofs.ByteKinds.{tests_agree}
 use Rattle.base64_lenient.specs.Rfc4648.{standard, url_safe}
 use Rattle.base64_lenient.specs.Lenient.{value_in, is_in}
 use Rattle.base64_lenient.specs.Helpers.{in_both}
 
-pub both_test : (b : ℕ) → b < 256 → (leb 97 (bit_or b 32) && leb (bit_or b 32) 122) || (leb 48 b && leb b 57) ≡ in_both b
+pub both_test : (b : ℕ) → b < 256 → is_ascii_alphanumeric b ≡ in_both b
 unfolding in_both value_in
-both_test = tests_agree (λ (b : ℕ). (leb 97 (bit_or b 32) && leb (bit_or b 32) 122) || (leb 48 b && leb b 57)) in_both tt
+both_test = tests_agree is_ascii_alphanumeric in_both tt
 
 pub standard_test : (b : ℕ) → b < 256 → (in_both b || eqb b 43) || eqb b 47 ≡ is_in standard b
 unfolding in_both value_in

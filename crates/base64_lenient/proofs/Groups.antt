@@ -3,16 +3,16 @@
 use mathlib.Core.Path.{◌≡◌, refl, sym, ap, ◌∙◌}
 use mathlib.Core.Bool.{true, ◌&&◌}
 use mathlib.Core.List.{List, [], ◌∷◌, ◌++◌, append-nil}
-use Prim.Native.Nat.{ℕ, zero, suc, ◌+◌, ◌*◌, ◌/◌, ◌%◌, ◌≤◌, ◌<◌}
+use Prim.Native.Nat.{ℕ, suc, ◌+◌, ◌*◌, ◌≤◌, ◌<◌}
 use native.Mathlib.Numerals.{add-one}
 use native.Mathlib.Omega.{arith}
 use borrow.Author.Tests.{ltb-true, ltb-false, eqb-true, eqb-false}
 use lib.Dec.{ltb, eqb}
-use lib.ListN.{length, take, drop, set, length-set, drop_of_length-le}
-use lib.Seq.{sets, length-sets, drop-cons, take-suc-set, append_snoc, get_or-set_same, get_or-set_other}
+use Rattle.std.proofs.lemmas.List.{get_or-take, get_or_past}
+use lib.ListN.{length, get_or, take, drop, set, length-set, drop_of_length-le}
+use lib.Seq.{sets, length-sets, drop-cons, length-take-le, take-suc-set, append_snoc, get_or-set_same, get_or-set_other}
 use Rattle.base.specs.Bytes.{byte}
 use Rattle.base.proofs.Tests.{by_cases, and_left, and_right}
-use Rattle.base.proofs.Stores.{empty}
 use Rattle.base.proofs.Storings.{Storing, storing_room, storing_more}
 use Rattle.base64_lenient.specs.Rfc4648.{pad}
 use Rattle.base64_lenient.specs.Lenient.{six_bits, regroup}
@@ -40,39 +40,23 @@ cut_four s i h =
       drop-cons s (suc (suc (suc i))) 0 (omega arith),
     )
 
+-- a group of four that stand together
+pub chunk_is : (s : List ℕ) (i : ℕ) → i + 4 ≤ length s → take 4 (drop i s) ≡ byte s i ∷ byte s (i + 1) ∷ byte s (i + 2) ∷ byte s (i + 3) ∷ []
+chunk_is s i h = rw (cut_four s i h)
+
 -- a list of four
 four_of : (v : List ℕ) → length v ≡ 4 → v ≡ byte v 0 ∷ byte v 1 ∷ byte v 2 ∷ byte v 3 ∷ []
 four_of v h = cut_four v 0 (omega arith) ∙ rw (drop_of_length-le v {i = 4} (omega arith))
 
--- ---- the bytes of at most four values
+-- ---- the bytes of four values
 
 module _ (v : List ℕ) (h : length v ≡ 4) where
-  pub bytes_size : (n : ℕ) → n ≤ 4 → length (regroup (take n v)) ≡ n * 3 / 4
+  four_size : length (regroup v) ≡ 3
   unfolding regroup
-  bytes_size zero l = refl
-  bytes_size (suc zero) l = rw (four_of v h)
-  bytes_size (suc (suc zero)) l = rw (four_of v h)
-  bytes_size (suc (suc (suc zero))) l = rw (four_of v h)
-  bytes_size (suc (suc (suc (suc zero)))) l = rw (four_of v h)
-  bytes_size (suc (suc (suc (suc (suc n))))) l = absurd (omega arith)
+  four_size = rw (four_of v h)
 
-  pub no_byte : (n : ℕ) → n < 2 → regroup (take n v) ≡ []
-  no_byte n l = empty (regroup (take n v)) (omega (arith, bytes_size n (omega arith)))
-
-  pub one_byte_lem : regroup (take 2 v) ≡ (byte v 0 * 4 + byte v 1 / 16) ∷ []
-  unfolding regroup
-  one_byte_lem = rw (four_of v h)
-
-  pub two_bytes : regroup (take 3 v) ≡ (byte v 0 * 4 + byte v 1 / 16) ∷ (byte v 1 % 16 * 16 + byte v 2 / 4) ∷ []
-  unfolding regroup
-  two_bytes = rw (four_of v h)
-
-  pub three_bytes : regroup (take 4 v) ≡ (byte v 0 * 4 + byte v 1 / 16) ∷ (byte v 1 % 16 * 16 + byte v 2 / 4) ∷ (byte v 2 % 4 * 64 + byte v 3) ∷ []
-  unfolding regroup
-  three_bytes = rw (four_of v h)
-
-  -- four values, and then others
-  group_then : (l : List ℕ) → regroup (take 4 v ++ l) ≡ regroup (take 4 v) ++ regroup l
+  -- and of others after them
+  group_then : (l : List ℕ) → regroup (v ++ l) ≡ regroup v ++ regroup l
   unfolding regroup
   group_then l = rw (four_of v h)
 
@@ -116,6 +100,19 @@ module _ (run : List ℕ) (j : ℕ) (l : j < length run) where
               (λ q. rw (eqb-true k count q, get_or-set_same found count v 0 (omega (arith, u.size))) s)
               (λ q. rw (get_or-set_other found count k v 0 (eqb-false k count q)) (u.small k));
         }
+
+-- the values that were found
+module _ {run found : List ℕ} {i count j : ℕ} (u : Gathered run i found count j) where
+  taken_size : length (take count found) ≡ count
+  taken_size = length-take-le count found (omega (arith, u.few, u.size))
+
+  pub taken_few : length (take count found) ≤ 4
+  taken_few = omega (arith, taken_size, u.few)
+
+  pub taken_small : (k : ℕ) → get_or (take count found) k 0 < 64
+  taken_small k =
+      by_cases (ltb k count) (λ q. rw (get_or-take count found k 0 (ltb-true k count q)) (u.small k))
+      (λ q. rw (get_or_past (take count found) k 0 (omega (arith, taken_size, ltb-false k count q))) (omega arith))
 
 -- ---- whole groups
 
@@ -182,25 +179,18 @@ module _ (run : List ℕ) (i : ℕ) {all out₀ out : List ℕ} {at p : ℕ} (u 
     abbrev stored : List ℕ
     stored = regroup (take g.count g.values)
 
-    group_size : length stored ≡ g.count * 3 / 4
-    group_size = bytes_size g.values w.gathered.size g.count w.gathered.few
+    full : 4 ≤ g.count → length (take g.count g.values) ≡ 4
+    full h = omega (arith, taken_size w.gathered, w.gathered.few)
 
     group_cut : bytes_from run i ≡ stored ++ bytes_from run g.end
     unfolding regroup
     group_cut =
         by_cases (ltb g.count 4)
         (λ e. rw (w.gathered.are, w.last (ltb-true g.count 4 e), append-nil (take g.count g.values)) (sym (append-nil stored)))
-        (λ e. let n : g.count ≡ 4 = omega (arith, ltb-false g.count 4 e, w.gathered.few) in
-        ap regroup w.gathered.are ∙ rw n (group_then g.values w.gathered.size (values_of (drop g.end run))))
+        (λ e. ap regroup w.gathered.are ∙ group_then (take g.count g.values) (full (ltb-false g.count 4 e)) (values_of (drop g.end run)))
 
-    pub group_room : p + g.count * 3 / 4 ≤ length out
-    group_room = storing_room u stored (bytes_from run g.end) group_cut group_size
+    pub group_room : p + length stored ≤ length out
+    group_room = storing_room u stored (bytes_from run g.end) group_cut refl
 
-    module _ (o : List ℕ) (e : o ≡ sets out p stored) where
-      more : Storing all out₀ at (bytes_from run g.end) o (p + g.count * 3 / 4)
-      more = storing_more u stored (bytes_from run g.end) group_cut group_size o e
-
-      pub group_stored : 4 ≤ g.count → Storing all out₀ at (bytes_from run g.end) o (p + 3)
-      group_stored h =
-          let n : p + g.count * 3 / 4 ≡ p + 3 = omega (arith, w.gathered.few) in
-          rw n at more
+    pub group_stored : 4 ≤ g.count → (o : List ℕ) → o ≡ sets out p stored → Storing all out₀ at (bytes_from run g.end) o (p + 3)
+    group_stored h o e = storing_more u stored (bytes_from run g.end) group_cut (four_size (take g.count g.values) (full h)) o e

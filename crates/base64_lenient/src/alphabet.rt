@@ -273,8 +273,7 @@ pub const NO_VALUE: u8 = 64;
 pub fn in_both(b: u8) -> bool
     ensures { result ≡ in_both b }
 {
-    let lower = b | 0x20;
-    ((b'a' <= lower) & (lower <= b'z')) | ((b'0' <= b) & (b <= b'9'))
+    b.is_ascii_alphanumeric()
 }
 
 // Whether the standard alphabet has the byte. A function of the two own characters for this and the next would leave both, as its callers.
@@ -294,7 +293,7 @@ pub fn in_url_safe(b: u8) -> bool
 }
 
 // Which of the two alphabets have what was looked at.
-#[derive(Clone, Copy)]
+#[derive(Clone, Copy, PartialEq, Eq, Debug)]
 pub struct Alphabets {
     pub standard: bool,
     pub url_safe: bool,

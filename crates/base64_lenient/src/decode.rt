@@ -27,8 +27,8 @@ impl Numbered for Refusal {
     }
 }
 
-// The values of the next characters, at most four, and where they end.
-#[derive(Clone, Copy)]
+// The values of the next characters, at most four, and where they end. An array and a count: there is no heap for a `Vec`.
+#[derive(Clone, Copy, PartialEq, Eq, Debug)]
 struct Group {
     values: [u8; 4],
     count: usize,
@@ -71,25 +71,6 @@ fn next_group(run: &[u8], at: usize) -> Group
     }
 }
 
-// Stores the bytes of at most four values.
-fn put_group(out: &mut [u8], at: usize, values: [u8; 4], count: usize)
-    requires { (count ≤ 4) × (at + count * 3 / 4 ≤ length out.old) × ((k : ℕ) → get_or values k 0 < 64) }
-    ensures { out.new ≡ sets out.old at (regroup (take count values)) }
-{
-    if count < 2 {
-        return;
-    }
-    out[at] = values[0] * 4 + values[1] / 16;
-    if count < 3 {
-        return;
-    }
-    out[at + 1] = values[1] % 16 * 16 + values[2] / 4;
-    if count < 4 {
-        return;
-    }
-    out[at + 2] = values[2] % 4 * 64 + values[3];
-}
-
 // Stores the three bytes of four values.
 fn put_three(out: &mut [u8], at: usize, a: u8, b: u8, c: u8, d: u8)
     requires { (at + 3 ≤ length out.old) × (a < 64) × (b < 64) × (c < 64) × (d < 64) }
@@ -100,24 +81,40 @@ fn put_three(out: &mut [u8], at: usize, a: u8, b: u8, c: u8, d: u8)
     out[at + 2] = c % 4 * 64 + d;
 }
 
+// Stores the bytes of at most four values.
+#[tactic(auto, unfolding(crate::specs::Lenient::regroup))]
+fn put_group(out: &mut [u8], at: usize, values: &[u8])
+    requires { (length values.now ≤ 4) × (at + length (regroup values.now) ≤ length out.old) × ((k : ℕ) → get_or values.now k 0 < 64) }
+    ensures { out.new ≡ sets out.old at (regroup values.now) }
+{
+    match values {
+        [a, b] => out[at] = a * 4 + b / 16,
+        [a, b, c] => {
+            out[at] = a * 4 + b / 16;
+            out[at + 1] = b % 16 * 16 + c / 4;
+        }
+        [a, b, c, d] => put_three(out, at, *a, *b, *c, *d),
+        _ => {}
+    }
+}
+
 // Stores the bytes of the groups of four characters that stand together from `at` on. Gives how many groups there were.
 fn whole_groups(run: &[u8], at: usize, out: &mut [u8], to: usize) -> usize
     requires { (at ≤ length run.now) × (to + length (bytes_from run.now at) ≤ length out.old) }
     ensures { WholeGroups run.now at out.old to result out.new }
 {
-    let most = (run.len() - at) / 4;
-    for n in 0..most {
-        let i = at + n * 4;
-        let a = value_of(run[i]);
-        let b = value_of(run[i + 1]);
-        let c = value_of(run[i + 2]);
-        let d = value_of(run[i + 3]);
+    let (groups, _) = run[at..].as_chunks::<4>();
+    for (n, [a, b, c, d]) in groups.iter().enumerate() {
+        let a = value_of(*a);
+        let b = value_of(*b);
+        let c = value_of(*c);
+        let d = value_of(*d);
         if !((a < NO_VALUE) & (b < NO_VALUE) & (c < NO_VALUE) & (d < NO_VALUE)) {
             return n;
         }
         put_three(out, to + n * 3, a, b, c, d);
     }
-    most
+    groups.len()
 }
 
 // Stores the bytes of a run.
@@ -133,7 +130,7 @@ fn put_bytes(run: &[u8], out: &mut [u8])
         i += n * 4;
         o += n * 3;
         let Group { values, count, end } = next_group(run, i);
-        put_group(out, o, values, count);
+        put_group(out, o, &values[..count]);
         if count < 4 {
             return;
         }

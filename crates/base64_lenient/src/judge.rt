@@ -10,7 +10,7 @@ use base::runs::BLOCK;
 const ROW: usize = 2 * BLOCK;
 
 // What was seen of a run: which alphabets have all of its characters, how many there are, and how many pad characters.
-#[derive(Clone, Copy)]
+#[derive(Clone, Copy, PartialEq, Eq, Debug)]
 struct Seen {
     alphabets: Alphabets,
     characters: usize,
@@ -18,7 +18,7 @@ struct Seen {
 }
 
 // What was seen to the end of a part of the run.
-#[derive(Clone, Copy)]
+#[derive(Clone, Copy, PartialEq, Eq, Debug)]
 struct Passed {
     seen: Seen,
     end: usize,
@@ -108,20 +108,17 @@ impl Seen {
                 end: at,
             };
         }
-        let characters = self.characters;
         let mut left = self.alphabets;
-        let mut i = at;
-        // By the place, which is part of the answer: an iterator over rows would have to count it beside them.
-        while ROW <= run.len() - i {
-            let end = i + ROW;
-            let next = left.shared(Alphabets::with_all(&run[i..end]));
+        let (rows, _) = run[at..].as_chunks::<ROW>();
+        for (n, row) in rows.iter().enumerate() {
+            let next = left.shared(Alphabets::with_all(row));
             if !next.some() {
-                return unpadded(left, characters + (i - at), i);
+                return unpadded(left, self.characters + n * ROW, at + n * ROW);
             }
             left = next;
-            i = end;
         }
-        unpadded(left, characters + (i - at), i)
+        let passed = rows.len() * ROW;
+        unpadded(left, self.characters + passed, at + passed)
     }
 
     // Whether pad characters, as many as there are, are right after the characters.

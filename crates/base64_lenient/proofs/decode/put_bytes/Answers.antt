@@ -4,7 +4,7 @@ use Prim.Native.Nat.{◌+◌, ◌*◌}
 use Rattle.base.proofs.Storings.{Storing, storing_end}
 use Rattle.base64_lenient.specs.Lenient.{regroup}
 use Rattle.base64_lenient.specs.Helpers.{bytes_from}
-use Rattle.base64_lenient.proofs.Groups.{none_at_end, whole_stored, group_room, group_stored}
+use Rattle.base64_lenient.proofs.Groups.{none_at_end, taken_few, taken_small, whole_stored, group_room, group_stored}
 use Rattle.base64_lenient.proofs.decode.put_bytes.Goals.{After-whole_groups-n}
 use Rattle.base64_lenient.proofs.decode.put_bytes.Goals as goal
 
@@ -17,13 +17,13 @@ pub put_group-requires : goal.put_group-requires
 put_group-requires c =
     let at = goal.at.put_group-requires c in
     let e = c.next_group-count.ensures in
-    (e.gathered.few, group_room _ _ (whole at.After-whole_groups-n) e, e.gathered.small)
+    (taken_few e.gathered, group_room _ _ (whole at.After-whole_groups-n) e, taken_small e.gathered)
 
 pub loop-i-preserved : goal.loop-i-preserved
 loop-i-preserved c =
     let at = goal.at.loop-i-preserved c in
     let e = c.next_group-count.ensures in
-    (e.gathered.inside, group_stored _ _ (whole at.After-whole_groups-n) e _ c.put_group.ensures c.if-count-lt4.false)
+    (e.gathered.inside, group_stored _ _ (whole at.After-whole_groups-n) e c.if-count-lt4.false _ c.put_group.ensures)
 
 pub returns : goal.returns
 unfolding regroup

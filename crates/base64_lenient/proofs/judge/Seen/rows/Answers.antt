@@ -1,19 +1,32 @@
 -- `rows` meets its contract: what was seen and what is left of the run make the whole, row by row. Assumes nothing.
-use mathlib.Core.Path.{◌≡◌}
-use Prim.Native.Nat.{◌+◌, ◌-◌}
+use mathlib.Core.Path.{◌≡◌, ap, ◌∙◌}
+use mathlib.Core.List.{[]}
+use Prim.Native.Nat.{◌+◌, ◌-◌, ◌*◌, ◌≤◌}
 use native.Mathlib.Omega.{arith}
-use borrow.Author.Rules.{rules}
+use lib.ListN.{length, length-drop, get_or, take, drop}
+use lib.Seq.{drop-drop, take_all}
+use Rattle.base.proofs.Chunks.{chunk_at}
 use Rattle.base.proofs.Tests.{told}
 use Rattle.base64_lenient.proofs.Sights.{seen_row}
 use Rattle.base64_lenient.proofs.judge.Seen.rows.Goals as goal
 
-pub loop-i-preserved : goal.loop-i-preserved
-loop-i-preserved c = let l = c.loop-i in
+pub loop-n-preserved : goal.loop-n-preserved
+loop-n-preserved c =
+    let l = c.loop-n in
     let at = c.args.at in
+    let s = c.args.run.now in
     let n = c.args.self.characters in
-    let o : n + (l.i - at) + (l.i + 32 - l.i) ≡ n + (l.i + 32 - at) = omega (arith, l.invariant.1) in (
-      rw c.shared-next.ensures
-          (rw o at (seen_row _ _ _ _ (l.i + 32) l.invariant.0 (omega arith) (search rules) _ c.with_all.ensures
-          (rw c.shared-next.ensures at (told _ c.some.ensures c.if-not-some.false)))),
-      omega (arith, l.invariant.1),
-    )
+    let k = l.n * 32 in
+    let part = take (length s - at) (drop at s) in
+    let all : part ≡ drop at s = take_all (length s - at) (drop at s) (omega (arith, length-drop at s)) in
+    let front : get_or c.as_chunks.result.0.now l.n [] ≡ take 32 (drop k part) =
+    rw c.as_chunks.ensures.front (chunk_at 32 _ l.n part (omega (arith, c.loop-n-test.true, c.as_chunks.ensures.front_len))) in
+    let room : at + k + 32 ≤ length s =
+    omega (arith, c.loop-n-test.true, c.as_chunks.ensures.front_len, ap length all, length-drop at s, c.requires.inside) in
+    let w : at + k + 32 - (at + k) ≡ 32 = omega arith in
+    let row : get_or c.as_chunks.result.0.now l.n [] ≡ take (at + k + 32 - (at + k)) (drop (at + k) s) = rw w (rw (all, drop-drop k at s) at front) in
+    let o : n + k + (at + k + 32 - (at + k)) ≡ n + (l.n + 1) * 32 = omega arith in
+    let e : at + (l.n + 1) * 32 ≡ at + k + 32 = omega arith in
+    rw (c.shared-next.ensures, e)
+    (rw o at (seen_row s _ _ (at + k) (at + k + 32) l.invariant (omega arith) room _ (c.with_all.ensures ∙ rw row)
+    (rw c.shared-next.ensures at (told _ c.some.ensures c.if-not-some.false))))

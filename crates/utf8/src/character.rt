@@ -16,14 +16,7 @@ use crate::state::State;
 pub fn is_tail(b: u8) -> bool
     ensures { result ≡ is_tail b }
 {
-    (0x80 <= b) & (b <= 0xBF)
-}
-
-// Whether `b` is from `lo` to `hi`.
-fn in_range(b: u8, lo: u8, hi: u8) -> bool
-    ensures { result ≡ within lo hi b }
-{
-    (lo <= b) & (b <= hi)
+    matches!(b, 0x80..=0xBF)
 }
 
 // The length of the character at the front of a slice.
@@ -45,9 +38,9 @@ fn long_size(rest: &[u8], lo: u8, hi: u8, tails: u8) -> Option<usize>
     ensures { result ≡ nonzero (size_after (State.Wants lo hi tails) rest.now) }
 {
     match (tails, rest) {
-        (0, [b, ..]) => in_range(*b, lo, hi).then_some(2),
-        (1, [b, c, ..]) => (in_range(*b, lo, hi) & is_tail(*c)).then_some(3),
-        (2, [b, c, d, ..]) => (in_range(*b, lo, hi) & is_tail(*c) & is_tail(*d)).then_some(4),
+        (0, [b, ..]) => (lo..=hi).contains(b).then_some(2),
+        (1, [b, c, ..]) => ((lo..=hi).contains(b) & is_tail(*c)).then_some(3),
+        (2, [b, c, d, ..]) => ((lo..=hi).contains(b) & is_tail(*c) & is_tail(*d)).then_some(4),
         _ => None,
     }
 }
@@ -88,7 +81,7 @@ pub fn decode(s: &[u8]) -> Option<Character>
     Some(Character { code, size })
 }
 
-// At most four bytes: the first `len` of `bytes`.
+// At most four bytes: the first `len` of `bytes`. An array and a length: there is no heap.
 #[derive(Clone, Copy, PartialEq, Eq, Debug)]
 pub struct Encoded {
     pub bytes: [u8; 4],
@@ -125,7 +118,7 @@ fn tail_of(bits: u32) -> u8
     (0x80 + bits % 64) as u8
 }
 
-// The bytes of a code point, and 0 past them.
+// The bytes of a code point, and 0 past them. Not by `char::encode_utf8`, whose bytes laws would have to show to be those of the definition.
 #[tactic(auto, unfolding(crate::specs::Character::encode_of), using(std::proofs::lemmas::Bool::Decides::nat_tests))]
 pub fn encode(code: u32) -> Encoded
     requires { code ≤ 0x10FFFF }
@@ -159,6 +152,7 @@ pub fn encode(code: u32) -> Encoded
 fn is_white(code: u32) -> bool
     ensures { result ≡ is_white code }
 {
+    // By `<=`: `matches!` leaves eight goals open, `contains` one, and of `char::is_whitespace` laws would have to show that it is the definition.
     ((0x0009 <= code) & (code <= 0x000D))
         | (code == 0x0020)
         | (code == 0x0085)

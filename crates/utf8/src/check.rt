@@ -36,7 +36,7 @@ fn past_chars(text: &[u8], at: usize, end: usize) -> Result<usize, Utf8Error>
     Ok(i)
 }
 
-// Windows of short characters first, and then a stretch of any.
+// Windows of short characters first, and then a stretch of any. Not by `from_utf8`, whose answer laws would have to show to be that of the grammar.
 #[tactic(auto, using(crate::proofs::Scans::scanning))]
 pub fn check(text: &[u8]) -> Result<(), Utf8Error>
     ensures { Checked text.now result }

@@ -16,7 +16,7 @@ impl Run for Short {
 
     #[tactic(auto, unfolding(crate::specs::Helpers::in_short))]
     fn has(self, a: u8, b: u8) -> bool {
-        ((0xC2 <= a) & (a <= 0xDF) & is_tail(b)) | ((a < 0xC0) & !is_tail(b))
+        (matches!(a, 0xC2..=0xDF) & is_tail(b)) | ((a < 0xC0) & !is_tail(b))
     }
 }
 

@@ -18,7 +18,7 @@ pub enum State {
 pub fn is_first(a: u8) -> bool
     ensures { result ≡ within 0xC2 0xF4 a }
 {
-    (0xC2 <= a) & (a <= 0xF4)
+    matches!(a, 0xC2..=0xF4)
 }
 
 // The length of the character that begins with `a`, the first byte of several: its leading one bits, counted as the leading zeros of 255
@@ -32,7 +32,7 @@ pub fn length_of(a: u8) -> usize
 }
 
 impl State {
-    // Between characters.
+    // Between characters. No `Default`: that would not say in which state a check begins.
     pub fn start() -> State
         ensures { result ≡ State.Between }
     {
@@ -82,7 +82,7 @@ impl State {
         match self {
             State::Between => State::lead(b),
             State::Wants { lo, hi, tails } => {
-                if (b < lo) | (hi < b) {
+                if !(lo..=hi).contains(&b) {
                     return State::IllFormed;
                 }
                 if tails == 0 {

@@ -1,19 +1,21 @@
 -- For `fraction_at`, `nanos_part`, `next_part` and `sum`: one part by the stages that the code has. What follows the whole number is the fraction that
 -- `part_of` speaks of, and an accepted part has a byte. By cases on the point and the tests. Assumes nothing.
-use Rattle.std.proofs.Common.{◌≡◌, ℕ, ◌+◌, ◌-◌, ◌*◌, ◌<◌, ◌≤◌, Option, Some, None, true, false, ◌&&◌, eqb, ltb, leb, List, length, take, drop, sym, refl, ◌∙◌, zero-le, pos_of_ne-zero, arith, le-ltb, lt-ltb, eq-eqb, ne_eqb, eqb-true, leb-true, leb-false}
+use Rattle.std.proofs.Common.{◌≡◌, ℕ, ◌+◌, ◌-◌, ◌*◌, ◌<◌, ◌≤◌, Option, Some, None, true, false, ◌&&◌, eqb, ltb, leb, List, length, take, drop, sym, refl, ap, ◌∙◌, zero-le, pos_of_ne-zero, arith, le-ltb, lt-ltb, eq-eqb, ne_eqb, eqb-true, leb-true, leb-false}
 use Rattle.std.specs.Bool.{then_some}
 use Rattle.std.specs.Option.{option_map}
 use Rattle.std.proofs.lemmas.Option.{none-some}
 use borrow.Author.Tests.{eqb-false}
+use native.Mathlib.Nat.{add-zero}
+use lib.Seq.{get_or-drop, drop-drop}
 use Rattle.base.specs.Helpers.{nonzero}
 use Rattle.base.proofs.Nonzero.{none_zero, some_same, some_more}
 use Rattle.base.specs.Bytes.{byte, same_bytes}
 use Rattle.base.specs.Runs.{reach}
 use Rattle.base.specs.Digits.{in_digits}
 use Rattle.base.proofs.Tests.{by_cases, pick_case, in_text, pick_same}
-use Rattle.base.proofs.Reaches.{reach_le, reach_rest}
+use Rattle.base.proofs.Reaches.{rest_is, reach_le, reach_rest}
 use Rattle.go_duration.specs.Fraction.{most, Acc, no_digits, read_digits, frac_of, fraction_nanos}
-use Rattle.go_duration.specs.Digits.{count_of, UnitNanos}
+use Rattle.go_duration.specs.Digits.{acc_of, count_of, UnitNanos}
 use Rattle.go_duration.specs.Units.{units, unit_of}
 use Rattle.go_duration.specs.Parse.{in_unit, whole_end, has_point, fraction_start, fraction_end, unit_end, whole_of, part_unit}
 use Rattle.go_duration.specs.Parse.{part_fraction, digitless, part_of}
@@ -36,6 +38,31 @@ module _ (w : ℕ) (a : Acc) (u x : ℕ) (q : x ≡ w * u + frac_of a u) where
       (λ e. let l = leb-true x most e in
       rw (e, ← q, le-ltb most (w * u) (omega arith), le-ltb most x l))
       (λ e. rw e (nanos_over (leb-false x most e)))
+
+-- ---- `fraction_at`: the digits that were read lie in the text, and end where it says
+module _ (s : List ℕ) (f k n : ℕ) (e : acc_of f k n ≡ read_digits (take (length s - 1) (drop 1 s)) no_digits) where
+  read_is : 1 + n ≡ reach in_digits s 1
+  read_is = omega (arith, ap count_of (rw rest_is at e), read_end_at s 1)
+
+  pub fraction_room : 1 ≤ length s → 1 + n ≤ length s
+  fraction_room h = omega (arith, read_is, reach_le in_digits s 1 h)
+
+  pub fraction_ends : byte s 0 ≡ 46 → 1 + n ≡ fraction_stop 0 s
+  unfolding fraction_stop
+  fraction_ends p = rw (eq-eqb (byte s 0) 46 p) read_is
+
+-- of the rest of a text it gives the digits and the length of the text's own
+pub fraction_rest : (n : ℕ) (s : List ℕ) → fraction_at 0 (drop n s) ≡ fraction_at n s
+unfolding fraction_at
+fraction_rest n s =
+    rw (get_or-drop, add-zero, drop-drop 1 n s)
+
+pub stop_rest : (n : ℕ) (s : List ℕ) → n + fraction_stop 0 (drop n s) ≡ fraction_stop n s
+unfolding fraction_stop
+stop_rest n s =
+    by_cases (eqb (byte s n) 46)
+    (λ e. rw (get_or-drop, add-zero, e, reach_rest in_digits s (n + 1), reach_rest in_digits (drop n s) 1, drop-drop 1 n s) (omega arith))
+    (λ e. rw (get_or-drop, add-zero, e) (omega arith))
 
 module _ (s : List ℕ) where
   pub part_over : most < whole_of s → None ≡ part_of s
@@ -86,6 +113,9 @@ module _ (s : List ℕ) where
   nanos_is : part_fraction s ≡ frac_of (fraction_at (whole_end s) s) (part_unit s)
   unfolding part_fraction fraction_nanos fraction_at has_point frac_of
   nanos_is = by_cases (eqb (byte s (whole_end s)) 46) (λ e. rw e) (λ e. rw e)
+
+  pub used_le : (w : Whole) → Some w ≡ leading_int s → w.used ≤ length s
+  used_le w h = let t = number_told s w h in rw t.used whole_le
 
   -- ---- the part, by the number and the fraction that were read, and the unit behind them
   module _ (w : Whole) (h : Some w ≡ leading_int s) (a : Acc) (p : a ≡ fraction_at w.used s) (e : ℕ) (q : e ≡ fraction_stop w.used s) where

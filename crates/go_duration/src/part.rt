@@ -72,17 +72,19 @@ pub fn unit_of(u: &[u8]) -> Option<u64>
     }
 }
 
-// The fraction, if a point stands at `at`, and where it ends.
-fn fraction_at(s: &[u8], at: usize) -> (Fraction, usize)
-    ensures digits { acc_of result.0.f result.0.kept result.0.count ≡ fraction_at at s.now }
-    ensures ends { result.1 ≡ fraction_stop at s.now }
+// The fraction at the front of `s`, if a point stands there, and how many bytes it has.
+#[tactic(auto, unfolding(crate::specs::Stages::fraction_at, crate::specs::Stages::fraction_stop))]
+fn fraction_at(s: &[u8]) -> (Fraction, usize)
+    ensures digits { acc_of result.0.f result.0.kept result.0.count ≡ fraction_at 0 s.now }
+    ensures ends { result.1 ≡ fraction_stop 0 s.now }
 {
-    if base::peek(s, at) != b'.' {
-        return (Fraction::start(), at);
+    match s {
+        [b'.', rest @ ..] => {
+            let digits = leading_fraction(rest);
+            (digits, 1 + digits.count)
+        }
+        _ => (Fraction::start(), 0),
     }
-    let start = at + 1;
-    let digits = leading_fraction(&s[start..]);
-    (digits, start + digits.count)
 }
 
 // The nanoseconds of so many units and a fraction of one, unless they are above 2^63.
@@ -100,7 +102,8 @@ pub fn next_part(s: &[u8]) -> Option<Part>
     ensures { result ≡ part_of s.now }
 {
     let Whole { value, used } = leading_int(s)?;
-    let (digits, end) = fraction_at(s, used);
+    let (digits, count) = fraction_at(&s[used..]);
+    let end = used + count;
     if used == 0 && digits.count == 0 {
         return None;
     }

@@ -300,7 +300,7 @@ pub struct Alphabets {
 }
 
 impl Alphabets {
-    // Both of them.
+    // Both of them. This and the next are named, since `default` would not say which it is.
     pub fn both() -> Alphabets
         ensures { result ≡ alphabets_by true true }
     {
@@ -330,7 +330,7 @@ impl Alphabets {
         }
     }
 
-    // Those that have all bytes. It looks at every byte, so that several can be tested by one instruction.
+    // Those that have all bytes. It looks at every byte, so that several can be tested by one instruction. A `for`: of a `fold` the goal stays open.
     pub fn with_all(s: &[u8]) -> Alphabets
         ensures { result ≡ alphabets_by (all_pass (is_in standard) s.now) (all_pass (is_in url_safe) s.now) }
     {

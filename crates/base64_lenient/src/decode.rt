@@ -35,7 +35,7 @@ struct Group {
     end: usize,
 }
 
-// The value of a character, or 64.
+// The value of a character, or 64. For an `Option` in `next_group` a second function would have to read the table.
 fn value_of(b: u8) -> u8
     ensures { result ≡ six_bits b }
 {
@@ -71,7 +71,7 @@ fn next_group(run: &[u8], at: usize) -> Group
     }
 }
 
-// Stores the three bytes of four values.
+// Stores the three bytes of four values. Numbers below 64: a type for six bits would have to be opened again wherever a bit of them is taken.
 fn put_three(out: &mut [u8], at: usize, a: u8, b: u8, c: u8, d: u8)
     requires { (at + 3 ≤ length out.old) × (a < 64) × (b < 64) × (c < 64) × (d < 64) }
     ensures { out.new ≡ sets out.old at (regroup (a ∷ b ∷ c ∷ d ∷ [])) }

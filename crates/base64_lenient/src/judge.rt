@@ -70,6 +70,7 @@ impl Seen {
                 ..self
             };
         }
+        // Two returns: with one `if` for the alphabets alone, runs with line breaks take 1.5 times as long.
         if self.pads == 0 {
             return Seen {
                 alphabets: self.alphabets.shared(Alphabets::with(b)),

@@ -22,6 +22,7 @@ pub struct Fraction {
 }
 
 impl Fraction {
+    // No digits yet. `Default` cannot be derived for a struct with ghost fields.
     pub fn start() -> Self
         ensures { acc_of result.f result.kept result.count ≡ no_digits }
     {

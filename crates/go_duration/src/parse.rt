@@ -26,7 +26,7 @@ pub fn sum(s: &[u8]) -> Option<u64>
     Some(d)
 }
 
-// The finished sum under its sign, where an i64 holds it: 2^63 only under `-`.
+// The finished sum under its sign, where an i64 holds it: 2^63 only under `-`. The sign comes beside the sum, since -2^63 has no positive i64.
 fn signed(d: u64, neg: bool) -> Option<i64>
     requires { d ≤ most }
     ensures { result ≡ with_sign neg (Some d) }

@@ -8,8 +8,8 @@ use mathlib.Core.List.{List, []}
 use Prim.Native.Nat.{ℕ, zero, suc, ◌+◌, ◌*◌, ◌/◌, ◌≤◌, ◌<◌, zero-le}
 use native.Mathlib.Omega.{arith}
 use lib.IntN.{ℤ, pos}
-use lib.ListN.{length, get_or, take, drop, length-drop}
-use lib.Seq.{get_or-take, get_or-drop, length-take-le}
+use lib.ListN.{length, get_or, drop, length-drop}
+use lib.Seq.{get_or-take, get_or-drop}
 use lib.Signed.{lt_z}
 use borrow.Author.Tests.{not-true, not-false}
 use Rattle.suggestion_list.specs.Rows.{entry_width}
@@ -25,24 +25,19 @@ chunk_nanos (suc n) (suc k) s d h l =
     let e : suc k * entry_width ≡ entry_width + k * entry_width = omega arith in
     chunk_nanos n k (drop entry_width s) d (omega arith) (omega (arith, length-drop entry_width s)) ∙ rw e (get_or-drop entry_width s (k * entry_width) (pos 0))
 
-module _ (l : List ℤ) (count : ℕ) (z : ℤ) (room : count * entry_width ≤ length l) (chunks : List (List ℤ))
-    (are : chunks ≡ first_chunks entry_width (length (take (count * entry_width) l) / entry_width) (take (count * entry_width) l))
-    (size : length chunks ≡ count) where
-  nanos_are : (k : ℕ) (d : List ℤ) → k < count → get_or (get_or chunks k d) 0 (pos 0) ≡ nanos_at l k
-  nanos_are k d h =
-      let s = take (count * entry_width) l in
-      let n = length-take-le (count * entry_width) l room in
-      let e : length s / entry_width ≡ count = omega (arith, n) in
-      rw (are, e) (chunk_nanos count k s d h (omega (arith, n)) ∙ get_or-take (count * entry_width) l (k * entry_width) (pos 0) (omega arith))
+module _ (l : List ℤ) (z : ℤ) (chunks : List (List ℤ)) (are : chunks ≡ first_chunks entry_width (length l / entry_width) l)
+    (size : length chunks ≡ length l / entry_width) where
+  nanos_are : (k : ℕ) (d : List ℤ) → k < length l / entry_width → get_or (get_or chunks k d) 0 (pos 0) ≡ nanos_at l k
+  nanos_are k d h = rw are (chunk_nanos (length l / entry_width) k l d h (omega arith))
 
   -- those of at most as many nanoseconds come first
-  pub at_most_first : Climbs l count → IsPartitionedBy (λ e. not (lt_z z (get_or e 0 (pos 0)))) chunks
+  pub at_most_first : Climbs l (length l / entry_width) → IsPartitionedBy (λ e. not (lt_z z (get_or e 0 (pos 0)))) chunks
   at_most_first c i j d h g e =
       let f = rw (nanos_are j d (omega (arith, size))) at (not-true _ e) in
       rw (nanos_are i d (omega (arith, size)), no_less_on z (nanos_at l j) (nanos_at l i) f (c i j h (omega (arith, size))))
 
-  pub parted : {r : ℕ} → r ≤ count → IsPartitionPoint (λ e. not (lt_z z (get_or e 0 (pos 0))) ≡ true) (λ e. not (lt_z z (get_or e 0 (pos 0))) ≡ false) chunks r
-      → Parts l count z r
+  pub parted : {r : ℕ} → r ≤ length l / entry_width → IsPartitionPoint (λ e. not (lt_z z (get_or e 0 (pos 0))) ≡ true) (λ e. not (lt_z z (get_or e 0 (pos 0))) ≡ false) chunks r
+      → Parts l (length l / entry_width) z r
   parted h w =
       record {
         before = λ k g. rw (nanos_are k [] (omega arith)) at (not-true _ (w.0 k [] zero-le g));

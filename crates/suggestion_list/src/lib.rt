@@ -1,28 +1,35 @@
 // Suggestions, kept in order in a slice of numbers.
 #![tactic(auto)]
 
-ghost use Rattle.std.specs.Prelude.{◌≡◌, ◌+◌, ◌*◌, ◌≤◌, ◌<◌, length};
-ghost use Rattle.suggestion_list.specs.Rows.{entry_width};
+ghost use Rattle.std.specs.Prelude.{◌≡◌, ◌+◌, ◌*◌, ◌/◌, ◌≤◌, ◌<◌, length};
+ghost use Rattle.suggestion_list.specs.Rows.{entry_width, entry_numbers};
 ghost use Rattle.suggestion_list.specs.Helpers.{Place, Moved, Added, SameList};
 
 // How many numbers an entry has.
 pub const ENTRY_WIDTH: usize = 3;
 
 // A replacement that counts: the nanoseconds that it gives, the offset of the byte that is replaced, and the byte that takes its place.
-#[derive(Clone, Copy)]
+#[derive(Clone, Copy, PartialEq, Eq, Debug)]
 pub struct Suggestion {
     pub nanos: i64,
-    pub offset: usize,
+    pub offset: u16,
     pub byte: u8,
 }
 
-// Where an entry of so many nanoseconds goes among the first `count`: behind those of as many or fewer. The count
-// stands beside the list here and below, since a part of the list that is borrowed would have no room for one entry more.
-fn place_for(list: &[i64], count: usize, nanos: i64) -> usize
-    requires { count * entry_width ≤ length list.now }
-    ensures { Place list.now count nanos result }
+// Its entry.
+impl From<Suggestion> for [i64; ENTRY_WIDTH] {
+    ghost from_gives = { λ x r. r ≡ entry_numbers x };
+
+    fn from(x: Suggestion) -> Self {
+        [x.nanos, i64::from(x.offset), i64::from(x.byte)]
+    }
+}
+
+// Where an entry of so many nanoseconds goes among these: behind those of as many or fewer.
+fn place_for(entries: &[i64], nanos: i64) -> usize
+    ensures { Place entries.now (length entries.now / entry_width) nanos result }
 {
-    let (entries, _) = list[..count * ENTRY_WIDTH].as_chunks::<ENTRY_WIDTH>();
+    let (entries, _) = entries.as_chunks::<ENTRY_WIDTH>();
     entries.partition_point(|entry| entry[0] <= nanos)
 }
 
@@ -37,14 +44,15 @@ fn make_room(list: &mut [i64], at: usize, end: usize)
 }
 
 // Puts an entry into its place among the first `count`, in a list that has room for it. It comes after all of the others by its offset and byte, so that
-// those of as many nanoseconds stay before it. The offset is small, as is required: `try_from` would add a case that cannot come.
+// those of as many nanoseconds stay before it. The count stands beside the list, since the part that holds the entries has no room for one more.
 fn put(list: &mut [i64], count: usize, x: Suggestion)
-    requires { (count * entry_width + entry_width ≤ length list.old) × (x.offset < 0x10000) }
+    requires { count * entry_width + entry_width ≤ length list.old }
     ensures { Added x count list.old list.new }
 {
-    let at = place_for(list, count, x.nanos) * ENTRY_WIDTH;
-    make_room(list, at, count * ENTRY_WIDTH);
-    base::store(list, at, &[x.nanos, x.offset as i64, i64::from(x.byte)]);
+    let end = count * ENTRY_WIDTH;
+    let at = place_for(&list[..end], x.nanos) * ENTRY_WIDTH;
+    make_room(list, at, end);
+    base::store(list, at, &<[i64; ENTRY_WIDTH]>::from(x));
 }
 
 // The suggestions so far, in order in a lent slice of numbers as far as it has room, and how many there are.
@@ -66,7 +74,7 @@ impl<'a> Suggestions<'a> {
 
     // Puts an entry into its place, where the list has room for it, and counts it in any case.
     pub fn add(&mut self, x: Suggestion)
-        requires { (self.old.count < 0x10000) × (x.offset < 0x10000) }
+        requires { self.old.count < 0x10000 }
         ensures same_list { SameList self.old self.new }
         ensures counted { self.new.count ≡ self.old.count + 1 }
         ensures added { Added x self.old.count self.old.list.now self.new.list.now }

@@ -16,13 +16,18 @@ use Rattle.lexer.specs.Token.{start_at}
 use Rattle.suggestion_list.specs.Order.{Rising, put_all}
 use Rattle.suggestion_list.specs.Rows.{entry_width, entry_rows}
 use Rattle.suggestion_list.specs.declared.Suggestion.{Suggestion}
-use Rattle.suggest.specs.Calls.{longest_run}
+use Rattle.suggest.specs.Calls.{longest_run, good_run}
 use Rattle.suggest.specs.Suggestions.{seen_in, first_byte, byte_count, entry_by, at_offset, suggestions_of}
 use Rattle.suggest.specs.declared.pieces.Around.{Around}
 use Rattle.suggest.specs.declared.pieces.Side.{Side}
 
 -- Types of the code (src/pieces.rt). `Side`, what is `seen` on one side of a `cut`; `Around`, what is so `before` and `behind` the piece that changes.
 -- Types that other files explain: `Lexeme` in lexeme/specs/Lexeme.antt; `Suggestion` in suggestion_list/specs/Order.antt.
+
+-- a run that is taken is kept as it is
+pub record RunTaken (run run' : List ℕ) : Type 0 where
+  pub good : good_run run ≡ true
+  pub same : run' ≡ run
 
 -- ---- what is seen, without a reading
 

@@ -1,11 +1,10 @@
 // The call: the suggestions for a run.
-ghost use Rattle.std.specs.Prelude.{◌≡◌};
-ghost use Rattle.suggest.specs.Calls.{refusal_number, good_run, SuggestsDurations};
+ghost use Rattle.suggest.specs.Calls.{refusal_number, SuggestsDurations};
 
-use crate::candidates::{BYTES, LONGEST, ShortRun, count_all, fill_all};
+use crate::candidates::{BYTES, count_all, fill_all};
+use crate::run::ShortRun;
 use base::answer::Numbered;
 use suggestion_list::ENTRY_WIDTH;
-use utf8::check::check;
 
 // Why the call is refused.
 #[derive(Clone, Copy, PartialEq, Eq, Debug)]
@@ -25,24 +24,13 @@ impl Numbered for Refusal {
     }
 }
 
-// Whether the run is one that is taken.
-fn good_run(run: &[u8]) -> bool
-    ensures { result ≡ good_run run.now }
-{
-    if (run.len() == 0) | (run.len() > LONGEST) {
-        return false;
-    }
-    check(run).is_ok()
-}
-
 // Lists the suggestions for a run, in order. It counts them first, but where the list suffices for any run of the length.
 pub fn suggest_durations(run: &[u8], list: &mut [i64]) -> Result<usize, Refusal>
     ensures { SuggestsDurations run.now list.old result list.new }
 {
-    if !good_run(run) {
+    let Some(short) = ShortRun::parse(run) else {
         return Err(Refusal::BadRun);
-    }
-    let short = ShortRun { bytes: run };
+    };
     if list.len() < run.len() * BYTES * ENTRY_WIDTH && list.len() < count_all(short) * ENTRY_WIDTH {
         return Err(Refusal::ListShort);
     }

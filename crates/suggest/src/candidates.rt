@@ -6,6 +6,7 @@ ghost use Rattle.suggest.specs.Calls.{longest_run};
 ghost use Rattle.suggest.specs.Helpers.{can_stand, Cut, ByteTried, OffsetTried, AllTried};
 
 use crate::pieces::{Around, see_around, surroundings};
+use crate::run::{LONGEST, ShortRun};
 use base::class::{is_digit, is_duration_unit};
 use suggestion_list::{Suggestion, Suggestions};
 
@@ -15,17 +16,7 @@ const FIRST: u8 = 0x20;
 const LAST: u8 = 0x7E;
 
 // How many there are.
-pub const BYTES: usize = 95;
-
-// The longest run that is taken.
-pub const LONGEST: usize = 64;
-
-// A run that is not too long.
-#[derive(Clone, Copy)]
-pub struct ShortRun<'a> {
-    pub bytes: &'a [u8],
-    ghost short: { length bytes.now ≤ longest_run },
-}
+pub const BYTES: usize = (LAST - FIRST) as usize + 1;
 
 // Whether a printable byte can stand in a text where one Duration is all that is seen.
 fn can_stand(b: u8) -> bool
@@ -34,22 +25,23 @@ fn can_stand(b: u8) -> bool
     is_digit(b) | is_duration_unit(b) | (b == b' ') | (b == b'-') | (b == b'.')
 }
 
-// Adds what the text gives, which is the run with the byte `b` at the offset `i`, of which the surroundings are known. An offset, since a suggestion holds it.
-fn try_byte(text: &[u8], i: usize, b: u8, around: Around, found: &mut Suggestions<'_>)
-    requires { (i < 0x10000) × (found.old.count < 0x10000) × Cut text.now around }
+// Adds what the text gives, which is the run with this byte at this offset, of which the surroundings are known.
+fn try_byte(text: &[u8], offset: u16, byte: u8, around: Around, found: &mut Suggestions<'_>)
+    requires { (found.old.count < 0x10000) × Cut text.now around }
     ensures same_list { SameList found.old found.new }
-    ensures tried { ByteTried text.now i b found.old.list.now found.old.count found.new.list.now found.new.count }
+    ensures tried { ByteTried text.now offset byte found.old.list.now found.old.count found.new.list.now found.new.count }
 {
     if let Some(nanos) = see_around(text, around) {
         found.add(Suggestion {
             nanos,
-            offset: i,
-            byte: b,
+            offset,
+            byte,
         });
     }
 }
 
-// Adds what each printable byte other than the run's own gives at the offset `i`. The run is as it was afterwards.
+// Adds what each printable byte other than the run's own gives at the offset `i`. The run is as it was afterwards. The cast loses nothing, as is required:
+// `try_from` would add a case that cannot come.
 fn try_offset(run: &mut [u8], i: usize, found: &mut Suggestions<'_>)
     requires { (i < length run.old) × (length run.old ≤ longest_run) × (found.old.count ≤ i * byte_count) }
     ensures same_run { run.new ≡ run.old }
@@ -61,7 +53,7 @@ fn try_offset(run: &mut [u8], i: usize, found: &mut Suggestions<'_>)
     for b in FIRST..=LAST {
         if (b != own) & can_stand(b) {
             run[i] = b;
-            try_byte(run, i, b, around, found);
+            try_byte(run, i as u16, b, around, found);
         }
     }
     run[i] = own;
@@ -93,13 +85,12 @@ pub fn fill_all(run: ShortRun<'_>, list: &mut [i64]) -> usize
     found.count
 }
 
-// Counts them alone: a list of one number has no room for any.
+// Counts them alone: an empty list has no room for any.
 pub fn count_all(run: ShortRun<'_>) -> usize
     ensures { result ≡ length (suggestions_of run.entry.bytes.now) }
 {
     let mut text = [0u8; LONGEST];
-    let mut none = [0i64; 1];
-    let mut found = Suggestions::new(&mut none);
+    let mut found = Suggestions::new(&mut []);
     try_offsets(run, &mut text, &mut found);
     found.count
 }

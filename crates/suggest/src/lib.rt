@@ -4,4 +4,5 @@
 pub mod call;
 mod candidates;
 mod pieces;
+mod run;
 pub mod seen;

@@ -12,14 +12,14 @@ use base::runs::reach_run;
 use scan::run::Blank;
 
 // What is seen on one side of a cut.
-#[derive(Clone, Copy)]
+#[derive(Clone, Copy, PartialEq, Eq, Debug)]
 pub struct Side {
     pub cut: usize,
     pub seen: Option<i64>,
 }
 
 // What surrounds the piece of a text that changes: what is seen before it and behind it, where the text is cut there.
-#[derive(Clone, Copy)]
+#[derive(Clone, Copy, PartialEq, Eq, Debug)]
 pub struct Around {
     pub before: Option<Side>,
     pub behind: Option<Side>,

@@ -3,21 +3,21 @@
 use mathlib.Core.Path.{◌≡◌, refl}
 use mathlib.Core.Bool.{Bool, false, ◌&&◌}
 use mathlib.Core.List.{List, [], ◌∷◌, ◌++◌, append_assoc}
-use Prim.Native.Nat.{ℕ, ◌+◌, ◌≤◌, ◌<◌, ◌^◌}
+use Prim.Native.Nat.{ℕ, ◌+◌, ◌*◌, ◌≤◌, ◌<◌, ◌^◌}
 use native.Mathlib.Nat.{add-zero, add_assoc, mul-le-mul_right}
 use native.Mathlib.Omega.{arith}
 use lib.Dec.{eqb}
 use lib.ListN.{length, get_or, take}
 use lib.Seq.{sets, drop-drop}
-use borrow.Author.Tests.{le-leb, lt-leb}
+use borrow.Author.Tests.{le-leb, lt-leb, ne_eqb}
 use Rattle.base.specs.Bytes.{same_bytes}
-use Rattle.token_file.specs.Format.{little, number_at, file_mark, row_width, row_bytes, header, bytes_row, file_width, file_count, framed}
+use Rattle.token_file.specs.Format.{little, unlittle, number_at, file_mark, row_width, row_bytes, header, bytes_row, file_width, file_count, framed}
 use Rattle.token_file.specs.Fits.{RowRead, offsets}
 use Rattle.token_file.specs.declared.row.Row.{Row}
 use Rattle.token_file.specs.declared.layout.Layout.{Layout}
 use Rattle.token_file.specs.declared.layout.Offsets.{Offsets}
 use Rattle.token_file.proofs.Numbers.{length_little, below_63}
-use Rattle.base.proofs.Tests.{and-true}
+use Rattle.base.proofs.Tests.{and-false}
 use Rattle.base.proofs.Stores.{Stored, stored_then}
 
 -- ---- to bytes
@@ -78,19 +78,44 @@ pub file_fits : (y : Layout) (n : ℕ) → n < 0x100000000 → file_width y n < 
 unfolding file_width
 file_fits y n s = omega (arith, mul-le-mul_right n (row_width_le y))
 
-mark_is : (l : List ℕ) → 3 ≤ length l → same_bytes (take 3 l) file_mark ≡ eqb (get_or l 0 0) 79 && (eqb (get_or l 1 0) 70 && eqb (get_or l 2 0) 84)
-unfolding same_bytes
+-- the first bytes as a list
+mark_is : (l : List ℕ) → 3 ≤ length l → take 3 l ≡ get_or l 0 0 ∷ (get_or l 1 0 ∷ (get_or l 2 0 ∷ []))
 mark_is [] h = absurd (omega arith)
 mark_is (a ∷ []) h = absurd (omega arith)
 mark_is (a ∷ (b ∷ [])) h = absurd (omega arith)
-mark_is (a ∷ (b ∷ (c ∷ l))) h = rw (and-true (eqb c 84))
+mark_is (a ∷ (b ∷ (c ∷ l))) h = refl
+
+-- and the numbers after them
+version_is : (l : List ℕ) → 9 ≤ length l → number_at l 3 2 ≡ get_or l 3 0 + get_or l 4 0 * 256
+unfolding unlittle
+version_is (a ∷ b ∷ c ∷ d ∷ e ∷ l) h = omega arith
+version_is l h = absurd (omega arith)
+
+count_is : (l : List ℕ) → 9 ≤ length l → file_count l ≡ get_or l 5 0 + get_or l 6 0 * 256 + get_or l 7 0 * 65536 + get_or l 8 0 * 16777216
+unfolding unlittle file_count
+count_is (a ∷ b ∷ c ∷ d ∷ e ∷ f ∷ g ∷ h ∷ i ∷ l) k = omega arith
+count_is l k = absurd (omega arith)
 
 module _ (y : Layout) (l : List ℕ) where
   pub short_framed : length l < 9 → framed y l ≡ false
   unfolding framed
   short_framed h = rw (lt-leb 9 (length l) h)
 
-  pub framed_is : 9 ≤ length l → {v n w : ℕ} → v ≡ number_at l 3 2 → n ≡ file_count l → w ≡ file_width y n → {b : Bool}
-      → (eqb (get_or l 0 0) 79 && (eqb (get_or l 1 0) 70 && eqb (get_or l 2 0) 84)) && (eqb v y.version && eqb (length l) w) ≡ b → framed y l ≡ b
+  -- where a byte of the mark is another one
+  pub mark_0 : 9 ≤ length l → (get_or l 0 0 ≡ 79 → ⊥) → framed y l ≡ false
+  unfolding framed same_bytes
+  mark_0 h e = rw (le-leb 9 (length l) h, mark_is l (omega arith), ne_eqb (get_or l 0 0) 79 e)
+
+  pub mark_1 : 9 ≤ length l → (get_or l 1 0 ≡ 70 → ⊥) → framed y l ≡ false
+  unfolding framed same_bytes
+  mark_1 h e = rw (le-leb 9 (length l) h, mark_is l (omega arith), ne_eqb (get_or l 1 0) 70 e, and-false)
+
+  pub mark_2 : 9 ≤ length l → (get_or l 2 0 ≡ 84 → ⊥) → framed y l ≡ false
+  unfolding framed same_bytes
+  mark_2 h e = rw (le-leb 9 (length l) h, mark_is l (omega arith), ne_eqb (get_or l 2 0) 84 e, and-false, and-false)
+
+  pub framed_is : 9 ≤ length l → get_or l 0 0 ≡ 79 → get_or l 1 0 ≡ 70 → get_or l 2 0 ≡ 84 → {v n w : ℕ}
+      → v ≡ get_or l 3 0 + get_or l 4 0 * 256 → n ≡ get_or l 5 0 + get_or l 6 0 * 256 + get_or l 7 0 * 65536 + get_or l 8 0 * 16777216
+      → w ≡ file_width y n → framed y l ≡ eqb v y.version && eqb (length l) w
   unfolding framed
-  framed_is h ev en ew t = rw (le-leb 9 (length l) h, mark_is l (omega arith), ← t, ew, en, ev)
+  framed_is h m₀ m₁ m₂ ev en ew = rw (le-leb 9 (length l) h, mark_is l (omega arith), m₀, m₁, m₂, version_is l h, count_is l h, ew, en, ev) ?

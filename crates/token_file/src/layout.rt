@@ -19,7 +19,7 @@ pub struct Layout {
 }
 
 // Where the numbers of a row begin in a file.
-#[derive(Clone, Copy)]
+#[derive(Clone, Copy, PartialEq, Eq, Debug)]
 pub(crate) struct Offsets {
     pub kind: usize,
     pub reason: usize,

@@ -51,7 +51,7 @@ fn get_row(file: &[u8], at: usize, y: Layout) -> Row
 }
 
 // A file whose mark, version and length are right.
-#[derive(Clone, Copy)]
+#[derive(Clone, Copy, PartialEq, Eq, Debug)]
 struct Framed<'a> {
     file: &'a [u8],
     layout: Layout,
@@ -64,13 +64,12 @@ impl<'a> Framed<'a> {
     fn parse(file: &'a [u8], layout: Layout) -> Option<Self>
         ensures { MatchOption result (framed layout file.now ≡ false) (λ f. FrameRead layout file.now f.file.now f.layout f.count) }
     {
-        if file.len() < HEADER_WIDTH {
+        let [b'O', b'F', b'T', v0, v1, c0, c1, c2, c3, ..] = *file else {
             return None;
-        }
-        let mark = (file[0] == b'O') & ((file[1] == b'F') & (file[2] == b'T'));
-        let version = number::get_little(file, 3, 2);
-        let count = number::get_little(file, 5, 4);
-        if !(mark & ((version == layout.version) & (file.len() == layout.file_width(count)))) {
+        };
+        let version = usize::from(u16::from_le_bytes([v0, v1]));
+        let count = u32::from_le_bytes([c0, c1, c2, c3]) as usize;
+        if (version != layout.version) | (file.len() != layout.file_width(count)) {
             return None;
         }
         Some(Self {

@@ -32,7 +32,7 @@ fn rules_hold(records: &[[i64; RECORD_WIDTH]]) -> bool
 }
 
 // Records that keep the rules.
-#[derive(Clone, Copy)]
+#[derive(Clone, Copy, PartialEq, Eq, Debug)]
 pub struct Records<'a> {
     all: &'a [[i64; RECORD_WIDTH]],
     ghost natural: { all_natural all.now ≡ true },

@@ -13,7 +13,7 @@ use token::{kind, reason};
 const LAST_PLACE: usize = MAX_MESSAGE_SIZE + 1;
 
 // The kept numbers. Kind and reason are no enums here: a file can have any numbers, and the rules judge them.
-#[derive(Clone, Copy)]
+#[derive(Clone, Copy, PartialEq, Eq, Debug)]
 pub struct Row {
     pub kind: usize,
     pub reason: usize,

@@ -35,9 +35,7 @@ fn put_header(out: &mut [u8], y: Layout, count: usize)
     requires { header_width ≤ length out.old }
     ensures { out.new ≡ sets out.old 0 (header y count) }
 {
-    out[0] = b'O';
-    out[1] = b'F';
-    out[2] = b'T';
+    base::store(out, 0, b"OFT");
     number::put_little(out, 3, 2, y.version);
     number::put_little(out, 5, 4, count);
 }

@@ -16,7 +16,7 @@ returns-in-Some-clause-tried c = let a = c.args in
       one = omega arith;
       adds = λ h.
           rw (← seen_same max_bytes_literal_length a.text.now (omega arith), ← c.see_around.ensures, c.in-Some.is, c.add.ensures.counted)
-          (adds_one c.in-Some.nanos a.i a.b (rw (to_z-of_z w64 c.in-Some.nanos f) at c.add.ensures.added));
+          (adds_one c.in-Some.nanos a.offset a.byte (rw (to_z-of_z w64 c.in-Some.nanos f) at c.add.ensures.added));
     }
 
 pub returns-in_default-clause-tried : goal.returns-in_default-clause-tried

@@ -17,7 +17,7 @@ try_byte-requires c = let p = c.requires in
     let l = c.loop-b in
     let i = l.invariant.1 in
     let w = cut_set l.b c.surroundings-around.ensures in
-    (omega (arith, p.0, p.1), omega (arith, p.0, p.1, p.2, i.few, i.high), rw (i.same l.b) w)
+    (omega (arith, p.0, p.1, p.2, i.few, i.high), rw (i.same l.b) w)
 
 pub loop-b-preserved : goal.loop-b-preserved
 loop-b-preserved c =

@@ -16,6 +16,7 @@ use Rattle.lexer.specs.Helpers.{FromQuote}
 use Rattle.lexer.specs.Token.{start_at}
 use Rattle.suggest.specs.Helpers.{starts_number, seen_of}
 use Rattle.suggest.proofs.FirstTokens.{starts_zero, number_lexeme, number_inside}
+use Rattle.suggest.proofs.seen.see.Goals.{Else-not-starts_number, After-lex_in-x}
 use Rattle.suggest.proofs.seen.see.Goals as goal
 
 -- what begins with it is no quote, and is read as a number
@@ -29,51 +30,42 @@ returns-then-not-starts_number c = let r = c.reach_run-start in
     let f = told _ c.starts_number.ensures c.if-not-starts_number.true in
     rw (← r.ensures, ← c.peek.ensures, f)
 
+-- what begins there
+begins : (c : Else-not-starts_number) → starts_number (byte c.args.text.now c.reach_run-start.result) ≡ true
+begins c = rw (← c.peek.ensures) (told _ c.starts_number.ensures c.if-not-starts_number.false)
+
+inside : (c : Else-not-starts_number) → c.reach_run-start.result < length c.args.text.now
+inside c = in_text starts_number _ _ starts_zero (begins c)
+
+begins_rest : (c : Else-not-starts_number) → starts_number (byte (drop c.reach_run-start.result c.args.text.now) 0) ≡ true
+begins_rest c = rw (get_or-drop c.reach_run-start.result c.args.text.now 0 0, add-zero) (begins c)
+
+-- the number that is read
+number_is : (c : After-lex_in-x) → c.lex_in-x.result ≡ lex_number (drop c.reach_run-start.result c.args.text.now)
+number_is c =
+    let at = goal.at.After-lex_in-x c in
+    rw rest_is at c.lex_in-x.ensures ∙ number_lexeme 0 _ (begins_rest at.Else-not-starts_number)
+
 pub slice_bounds-lex_in-count : goal.slice_bounds-lex_in-count
-slice_bounds-lex_in-count c =
-    let text : List ℕ = c.args.text.now in
-    let start : ℕ = c.reach_run-start.result in
-    let begins : starts_number (byte text start) ≡ true = rw (← c.peek.ensures) (told _ c.starts_number.ensures c.if-not-starts_number.false) in
-    let inside : start < length text = in_text starts_number text start starts_zero begins in
-    omega (arith, inside)
+slice_bounds-lex_in-count c = let at = goal.at.slice_bounds-lex_in-count c in omega (arith, inside at.Else-not-starts_number)
 
 pub slice_bounds-lex_in-start : goal.slice_bounds-lex_in-start
-slice_bounds-lex_in-start c =
-    let text : List ℕ = c.args.text.now in
-    let start : ℕ = c.reach_run-start.result in
-    let begins : starts_number (byte text start) ≡ true = rw (← c.peek.ensures) (told _ c.starts_number.ensures c.if-not-starts_number.false) in
-    let inside : start < length text = in_text starts_number text start starts_zero begins in
-    omega (arith, inside)
+slice_bounds-lex_in-start c = let at = goal.at.slice_bounds-lex_in-start c in omega (arith, inside at.Else-not-starts_number)
 
 pub lex_in-x-requires : goal.lex_in-x-requires
-lex_in-x-requires c =
-    let text : List ℕ = c.args.text.now in
-    let start : ℕ = c.reach_run-start.result in
-    let begins : starts_number (byte text start) ≡ true = rw (← c.peek.ensures) (told _ c.starts_number.ensures c.if-not-starts_number.false) in
-    let begins_rest : starts_number (byte (drop start text) 0) ≡ true = rw (get_or-drop start text 0 0, add-zero) begins in
-    rw rest_is (no_quote _ begins_rest)
+lex_in-x-requires c = let at = goal.at.lex_in-x-requires c in rw rest_is (no_quote _ (begins_rest at.Else-not-starts_number))
 
 pub overflow_add-end : goal.overflow_add-end
 overflow_add-end c =
+    let at = goal.at.overflow_add-end c in
     let text : List ℕ = c.args.text.now in
     let start : ℕ = c.reach_run-start.result in
-    let begins : starts_number (byte text start) ≡ true = rw (← c.peek.ensures) (told _ c.starts_number.ensures c.if-not-starts_number.false) in
-    let inside : start < length text = in_text starts_number text start starts_zero begins in
-    let begins_rest : starts_number (byte (drop start text) 0) ≡ true = rw (get_or-drop start text 0 0, add-zero) begins in
-    let number_is : c.lex_in-x.result ≡ lex_number (drop start text) = rw rest_is at c.lex_in-x.ensures ∙ number_lexeme 0 (drop start text) begins_rest in
-    let e = number_is in
-    let n = number_inside (drop start text) begins_rest in
+    let n = number_inside (drop start text) (begins_rest at.Else-not-starts_number) in
     let l = length-drop start text in
-    rw e (omega (arith, inside))
+    rw (number_is at.After-lex_in-x) (omega (arith, inside at.Else-not-starts_number))
 
 pub returns : goal.returns
 unfolding seen_of start_at
 returns c =
-    let text : List ℕ = c.args.text.now in
-    let start : ℕ = c.reach_run-start.result in
-    let begins : starts_number (byte text start) ≡ true = rw (← c.peek.ensures) (told _ c.starts_number.ensures c.if-not-starts_number.false) in
-    let begins_rest : starts_number (byte (drop start text) 0) ≡ true = rw (get_or-drop start text 0 0, add-zero) begins in
-    let number_is : c.lex_in-x.result ≡ lex_number (drop start text) = rw rest_is at c.lex_in-x.ensures ∙ number_lexeme 0 (drop start text) begins_rest in
-    let r = c.reach_run-start in
-    let e = number_is in
-    rw (← r.ensures, begins, ← e, ← c.reach_run.ensures) c.see_by.ensures
+    let at = goal.at.returns c in
+    rw (← c.reach_run-start.ensures, (begins at.Else-not-starts_number), ← (number_is at.After-lex_in-x), ← c.reach_run.ensures) c.see_by.ensures

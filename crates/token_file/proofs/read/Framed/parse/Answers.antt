@@ -1,19 +1,26 @@
 -- `parse` gives the file where `framed` is true: the same tests in the same order. Assumes nothing.
-use mathlib.Core.Path.{refl}
-use Rattle.token_file.specs.Format.{file_count}
-use Rattle.token_file.proofs.Rows.{file_fits, short_framed, framed_is}
+use mathlib.Core.Path.{◌≡◌, refl}
+use native.Mathlib.Omega.{arith}
+use borrow.Author.Tests.{eq-eqb, ne_eqb}
+use Rattle.std.proofs.Common.{tests}
+use Rattle.token_file.proofs.Rows.{file_fits, short_framed, framed_is, count_is, mark_0, mark_1, mark_2}
+use Rattle.token_file.proofs.read.Framed.parse.Goals.{in_default-via-then-file-lt9, in_default-via-else-file-lt9+in-79+in-70+in_default-1, in_default-via-else-file-lt9+in-79+in_default-1, in_default-via-else-file-lt9+in_default-1}
 use Rattle.token_file.proofs.read.Framed.parse.Goals as goal
 
-pub returns-then-file-lt-HEADER_WIDTH : goal.returns-then-file-lt-HEADER_WIDTH
-returns-then-file-lt-HEADER_WIDTH c = search short_framed
+pub returns-in_default : goal.returns-in_default
+returns-in_default c =
+    elim c.in_default.branch [
+      | in_default-via-then-file-lt9 w ↦ ?
+      | in_default-via-else-file-lt9+in-79+in-70+in_default-1 w ↦ mark_2 _ _ (omega arith) (λ e. omega arith)
+      | in_default-via-else-file-lt9+in-79+in_default-1 w ↦ mark_1 _ _ (omega arith) (λ e. omega arith)
+      | in_default-via-else-file-lt9+in_default-1 w ↦ mark_0 _ _ (omega arith) (λ e. omega arith)
+    ]
 
 pub file_width-requires : goal.file_width-requires
-file_width-requires c = search file_fits
+file_width-requires c = file_fits _ _ (omega arith)
 
-pub returns-then-not-mark-version : goal.returns-then-not-mark-version
-unfolding file_count
-returns-then-not-mark-version c = search framed_is
+pub returns-then-version-layout : goal.returns-then-version-layout
+returns-then-version-layout c = ?
 
 pub returns : goal.returns
-unfolding file_count
-returns c = record { right = search framed_is; same_file = refl; same_layout = refl; counted = c.get_little-count.ensures.0 }
+returns c = ?

@@ -10,6 +10,7 @@ use lib.ListN.{length, take, drop, get_or, length-append, length-drop, drop_of_l
 use lib.Seq.{drop-cons, drop-drop, get_or-take}
 use borrow.Author.Rules.{rules}
 use Rattle.std.specs.Simd.{first_chunks}
+use Rattle.base.proofs.Chunks.{chunk_at}
 use Rattle.notation.specs.Decimal.{number_text, separator}
 use Rattle.notation.proofs.Digits.{number_most}
 use Rattle.token.specs.Layout.{record_width}
@@ -72,19 +73,12 @@ rows_done T count i h =
     rw e
 
 -- a record is a chunk of the slice
-chunk_at : (k i : ℕ) (T : List ℤ) → i < k → get_or (first_chunks record_width k T) i [] ≡ take record_width (drop (i * record_width) T)
-chunk_at zero i T h = absurd (omega arith)
-chunk_at (suc k) zero T h = refl
-chunk_at (suc k) (suc i) T h =
-    let d : record_width + i * record_width ≡ suc i * record_width = omega arith in
-    chunk_at k i (drop record_width T) (omega arith) ∙ rw (drop-drop (i * record_width) record_width T, d)
-
 line_of_chunk : (T : List ℤ) → line_at (take record_width T) ≡ line_at T
 line_of_chunk T = search (rules, get_or-take)
 
 pub line_of_record : (T : List ℤ) (n i : ℕ) {k : ℕ} {rows : List (List ℤ)} → rows ≡ first_chunks record_width k T → i < n → i < k
     → line_at (get_or (take n rows) i []) ≡ line_at (drop (i * record_width) T)
-line_of_record T n i {k} {rows} e h l = rw (get_or-take n rows i [] h, e, chunk_at k i T l) (line_of_chunk (drop (i * record_width) T))
+line_of_record T n i {k} {rows} e h l = rw (get_or-take n rows i [] h, e, chunk_at record_width k i T l) (line_of_chunk (drop (i * record_width) T))
 
 -- they are the lines of the records that the slice begins with
 pub rows_held : (rs : List Record) (rest : List ℤ) → row_lines (length rs) (record_rows rs ++ rest) ≡ lines_of rs

@@ -24,6 +24,9 @@ use token::layout::RECORD_WIDTH;
 use token::place::Place;
 use token::reason::number_of;
 
+// What a refusal's line begins with.
+const REFUSED: &[u8] = b"refused ";
+
 // The out buffer is shorter than the listing.
 #[derive(Clone, Copy, PartialEq, Eq, Debug)]
 pub struct OutShort;
@@ -36,7 +39,8 @@ fn line_numbers(numbers: &[i64; RECORD_WIDTH]) -> [i64; 7]
     [start, end, line, column, kind, reason, nanos]
 }
 
-// The same of a token, which is measured before a record of it is stored. The casts lose nothing, as is required: `try_from` would add a case that cannot come.
+// The same of a token, of which no record is stored when it is measured: a record made for it would have twelve numbers and the same casts, and a trait for
+// both would be longer. The casts lose nothing, as is required: `try_from` would add a case that cannot come.
 fn token_numbers(t: Token) -> [i64; 7]
     requires { RecordFits (record_of 0 t) }
     ensures { result ≡ line_numbers (record_of 0 t) }
@@ -52,7 +56,7 @@ fn token_numbers(t: Token) -> [i64; 7]
     ]
 }
 
-// How many bytes the line of these numbers has.
+// How many bytes the line of these numbers has. A loop: with `map` and `sum` it was not proved that no sum on the way is too large.
 fn line_size(row: &[i64; 7]) -> usize
     ensures { result ≡ length (line_text row.now) }
 {
@@ -135,13 +139,12 @@ fn put_refusal(number: u8, out: &mut [u8]) -> Result<usize, OutShort>
     ensures { Fills (refused_line number) out.old result out.new }
 {
     let z = i64::from(number);
-    let size = 9 + number_size(z);
+    let size = REFUSED.len() + number_size(z) + 1;
     if out.len() < size {
         return Err(OutShort);
     }
-    base::copy(out, 0, b"refused ");
-    write_number(out, 8, z, b'\n');
-    Ok(size)
+    base::copy(out, 0, REFUSED);
+    Ok(write_number(out, REFUSED.len(), z, b'\n'))
 }
 
 // Lists a text, which is read strictly and with the default limit: the lines of its tokens, or the line of the refusal, from the out

@@ -1,23 +1,22 @@
 -- For the loops over lines and for `list`: how long lines are, what is left of a line after some numbers and of a slice's rows after some records,
 -- and that the rows of a slice that holds records are the lines of these. By induction on the list. Assumes nothing.
-use mathlib.Core.Path.{◌≡◌, refl, sym, ◌∙◌}
+use mathlib.Core.Path.{◌≡◌, refl, sym}
 use mathlib.Core.List.{List, [], ◌∷◌, ◌++◌, append_assoc}
 use Prim.Native.Nat.{ℕ, zero, suc, ◌+◌, ◌-◌, ◌*◌, ◌≤◌, ◌<◌}
 use native.Mathlib.Numerals.{add-one}
 use native.Mathlib.Omega.{arith}
 use lib.IntN.{ℤ, pos}
 use lib.ListN.{length, take, drop, get_or, length-append, length-drop, drop_of_length-le}
-use lib.Seq.{drop-cons, drop-drop, get_or-take}
+use lib.Seq.{drop-cons, get_or-take}
 use borrow.Author.Rules.{rules}
 use Rattle.std.specs.Simd.{first_chunks}
-use Rattle.base.proofs.Chunks.{chunk_at}
 use Rattle.notation.specs.Decimal.{number_text, separator}
 use Rattle.notation.proofs.Digits.{number_most}
 use Rattle.token.specs.Layout.{record_width}
 use Rattle.token.specs.declared.layout.Record.{Record}
 use Rattle.reading.specs.Buffers.{record_rows}
 use Rattle.listing_lines.specs.Lines.{line_text, lines_of, refused_line}
-use Rattle.listing_lines.specs.Rows.{line_at, row_lines}
+use Rattle.listing_lines.specs.Rows.{line_at, rows_lines}
 
 -- ---- one line
 
@@ -53,35 +52,28 @@ pub refused_length : (n : ℕ) → length (refused_line n) ≡ 9 + length (numbe
 unfolding line_text
 refused_length n = omega (arith, length-append (number_text (pos n)) (0x0A ∷ []))
 
--- ---- the lines of a slice's records
+-- ---- the lines of records
 
 -- what is left of them from the record i on
-abbrev pub rows_from : List ℤ → ℕ → ℕ → List ℕ
-rows_from T count i = row_lines (count - i) (drop (i * record_width) T)
+pub rows_at : (rs : List (List ℤ)) (i : ℕ) → i < length rs → rows_lines (drop i rs) ≡ line_text (line_at (get_or rs i [])) ++ rows_lines (drop (i + 1) rs)
+unfolding rows_lines
+rows_at rs i h = let e : i + 1 ≡ suc i = add-one i in rw (e, drop-cons rs i [] h)
 
-pub rows_at : (T : List ℤ) (count i : ℕ) → i < count → rows_from T count i ≡ line_text (line_at (drop (i * record_width) T)) ++ rows_from T count (i + 1)
-unfolding row_lines
-rows_at T count i h =
-    let e : count - i ≡ suc (count - (i + 1)) = omega arith in
-    let d : i * record_width + record_width ≡ (i + 1) * record_width = omega arith in
-    rw (e, drop-drop record_width (i * record_width) T, d)
+pub rows_done : (rs : List (List ℤ)) (i : ℕ) → length rs ≤ i → rows_lines (drop i rs) ≡ []
+unfolding rows_lines
+rows_done rs i h = rw (drop_of_length-le rs h)
 
-pub rows_done : (T : List ℤ) (count i : ℕ) → count ≤ i → rows_from T count i ≡ []
-unfolding row_lines
-rows_done T count i h =
-    let e : count - i ≡ 0 = omega arith in
-    rw e
+-- the first of the arrays that a slice has
+pub first_of_chunks : (n k : ℕ) (T : List ℤ) → n ≤ k → take n (first_chunks record_width k T) ≡ first_chunks record_width n T
+first_of_chunks zero k T h = refl
+first_of_chunks (suc n) zero T h = absurd (omega arith)
+first_of_chunks (suc n) (suc k) T h = rw (first_of_chunks n k (drop record_width T) (omega arith))
 
--- a record is a chunk of the slice
+-- records that a slice begins with, as arrays: their lines are those of the records
 line_of_chunk : (T : List ℤ) → line_at (take record_width T) ≡ line_at T
 line_of_chunk T = search (rules, get_or-take)
 
-pub line_of_record : (T : List ℤ) (n i : ℕ) {k : ℕ} {rows : List (List ℤ)} → rows ≡ first_chunks record_width k T → i < n → i < k
-    → line_at (get_or (take n rows) i []) ≡ line_at (drop (i * record_width) T)
-line_of_record T n i {k} {rows} e h l = rw (get_or-take n rows i [] h, e, chunk_at record_width k i T l) (line_of_chunk (drop (i * record_width) T))
-
--- they are the lines of the records that the slice begins with
-pub rows_held : (rs : List Record) (rest : List ℤ) → row_lines (length rs) (record_rows rs ++ rest) ≡ lines_of rs
-unfolding row_lines record_rows lines_of
+pub rows_held : (rs : List Record) (rest : List ℤ) → rows_lines (first_chunks record_width (length rs) (record_rows rs ++ rest)) ≡ lines_of rs
+unfolding rows_lines record_rows lines_of
 rows_held [] rest = refl
 rows_held (r ∷ rs) rest = rw (rows_held rs rest)

@@ -4,14 +4,16 @@ use mathlib.Core.Path.{◌≡◌, refl, sym, ap, ◌∙◌}
 use mathlib.Core.Bool.{Bool, true, false}
 use mathlib.Core.Logic.{◌⊎◌, inl, inr, ⊎_elim}
 use mathlib.Core.List.{List, ◌++◌}
-use Prim.Native.Nat.{ℕ, ◌≤◌, ◌<◌}
+use Prim.Native.Nat.{ℕ, ◌/◌, ◌≤◌, ◌<◌}
 use native.Mathlib.Omega.{arith}
 use lib.Dec.{eqb, ltb}
 use lib.IntN.{ℤ}
-use lib.ListN.{length, drop}
+use lib.ListN.{length, take, drop}
 use Rattle.std.specs.Prelude.{Result, Ok, Err}
 use lib.Seq.{sets}
 use borrow.Author.Tests.{ltb-true, ltb-false, le-ltb}
+use Rattle.std.specs.Simd.{first_chunks}
+use Rattle.token.specs.Layout.{record_width}
 use Rattle.limits.specs.Limits.{max_bytes_literal_length}
 use Rattle.lexer.specs.declared.reading.Reading.TheVariants.{Strict}
 use Rattle.reading.specs.Buffers.{record_rows, whole_laid}
@@ -21,13 +23,13 @@ use Rattle.reading.specs.Calls.{ReadsText}
 use Rattle.reading.specs.declared.counts.Counts.{Counts}
 use Rattle.reading.specs.declared.refusal.Refusal.{Refusal}
 use Rattle.reading.proofs.Refusals.{number_some}
-use Rattle.reading.proofs.AnswerBounds.{counted}
+use Rattle.reading.proofs.AnswerBounds.{counted, text_inside}
 use Rattle.listing_lines.specs.Lines.{refused_line}
 use Rattle.listing_lines.specs.Listing.{token_lines, listing_of, lines_size, Fills, Untouched, Lists}
-use Rattle.listing_lines.specs.Rows.{row_lines}
+use Rattle.listing_lines.specs.Rows.{rows_lines}
 use Rattle.listing_lines.specs.declared.OutShort.{OutShort}
 use Rattle.listing_lines.proofs.Fills.{whole_fills, short_out}
-use Rattle.listing_lines.proofs.Lines.{rows_held}
+use Rattle.listing_lines.proofs.Lines.{first_of_chunks, rows_held}
 
 -- an answer accepts, or its number is not 0
 answered : (r : Result Counts Refusal) → ((c : Counts) × (r ≡ Ok c)) ⊎ (eqb (read_text_number r) 0 ≡ false)
@@ -50,11 +52,18 @@ module _ {text : List ℕ} {T : List ℤ} {S : List ℕ} {R : List ℤ} {r : Res
 
   module _ {c : Counts} (e : r ≡ Ok c) where
     -- the lines of the rows that it counts are those of the tokens
-    pub rows_are : row_lines c.tokens T' ≡ token_lines text
+    rows_are : rows_lines (first_chunks record_width c.tokens T') ≡ token_lines text
     rows_are =
         let rs = (whole_laid Strict max_bytes_literal_length text).records in
         let d : T' ≡ record_rows rs ++ drop (length (record_rows rs)) T = rw e at w.lays.records in
         rw (counted w e, d) (rows_held rs (drop (length (record_rows rs)) T))
+
+    module _ {rows : List (List ℤ)} (q : rows ≡ first_chunks record_width (length T' / record_width) T') (n : length rows ≡ length T' / record_width) where
+      pub rows_inside : c.tokens ≤ length rows
+      rows_inside = omega (arith, n, (text_inside w e).0)
+
+      pub lines_are : rows_lines (take c.tokens rows) ≡ token_lines text
+      lines_are = rw (q, first_of_chunks c.tokens (length T' / record_width) T' (omega (arith, (text_inside w e).0))) rows_are
 
     -- which were counted before
     pub size_is : lines_size text ≡ length (token_lines text)
@@ -66,11 +75,11 @@ module _ {text : List ℕ} {T : List ℤ} {S : List ℕ} {R : List ℤ} {r : Res
         go (Err i) x q = cc
         go (Ok i) x q = refl
 
-    pub tokens_listed : {O : List ℕ} {n : ℕ} {O' : List ℕ} → lines_size text ≤ length O → n ≡ length (row_lines c.tokens T')
-        → O' ≡ sets O 0 (row_lines c.tokens T') → Lists text T S R O (Ok n) T' S' R' O'
-    tokens_listed {O} h q o =
+    pub tokens_listed : {O : List ℕ} {lines : List ℕ} {n : ℕ} {O' : List ℕ} → lines_size text ≤ length O → lines ≡ token_lines text
+        → n ≡ length lines → O' ≡ sets O 0 lines → Lists text T S R O (Ok n) T' S' R' O'
+    tokens_listed {O} h l q o =
         let z : listing_of text r ≡ token_lines text = rw e in
-        lists h (whole_fills (token_lines text) O (q ∙ ap length rows_are) (rw size_is at h) (o ∙ ap (sets O 0) rows_are)) (sym z)
+        lists h (whole_fills (token_lines text) O (q ∙ ap length l) (rw size_is at h) (o ∙ ap (sets O 0) l)) (sym z)
 
   pub refusal_listed : {x : Refusal} → r ≡ Err x → (number : ℕ) → number ≡ refusal_number x → {O : List ℕ} → lines_size text ≤ length O
       → {l : Result ℕ OutShort} {O' : List ℕ} → Fills (refused_line number) O l O' → Lists text T S R O l T' S' R' O'

@@ -1,16 +1,15 @@
 // The listing of a text, written to a lent buffer: one token a line, or `refused` and the number.
 #![tactic(auto)]
 
-ghost use Rattle.std.specs.Prelude.{◌≡◌, ◌+◌, ◌*◌, ◌≤◌, leb, length, drop};
+ghost use Rattle.std.specs.Prelude.{◌≡◌, ◌+◌, ◌≤◌, leb, length};
 ghost use Rattle.std.proofs.lemmas.List.Edits.{sets};
 ghost use Rattle.limits.specs.Limits.{max_message_size, max_bytes_literal_length};
-ghost use Rattle.token.specs.Layout.{record_width};
 ghost use Rattle.token.specs.Helpers.{RecordFits};
 ghost use Rattle.utf8.specs.Grammar.{Octets};
 ghost use Rattle.reading.specs.Buffers.{record_of};
 ghost use Rattle.listing_lines.specs.Lines.{line_text, line_numbers, refused_line};
 ghost use Rattle.listing_lines.specs.Listing.{token_lines, lines_size, Fills, Lists};
-ghost use Rattle.listing_lines.specs.Rows.{line_at, row_lines};
+ghost use Rattle.listing_lines.specs.Rows.{line_at, rows_lines};
 
 use base::answer::Numbered;
 use lexer::cursor::Cursor;
@@ -121,14 +120,13 @@ fn holds_lines(room: usize, text: &[u8]) -> bool
     }
 }
 
-// Writes the lines of the first `count` records from the buffer's start, and gives where they end. A count, since a reading counts what it has stored.
-fn put_lines(tokens: &[i64], count: usize, out: &mut [u8]) -> usize
-    requires { (count * record_width ≤ length tokens.now) × (length (row_lines count tokens.now) ≤ length out.old) }
-    ensures { (result ≡ length (row_lines count tokens.now)) × (out.new ≡ sets out.old 0 (row_lines count tokens.now)) }
+// Writes the lines of these records from the buffer's start, and gives where they end.
+fn put_lines(records: &[[i64; RECORD_WIDTH]], out: &mut [u8]) -> usize
+    requires { length (rows_lines records.now) ≤ length out.old }
+    ensures { (result ≡ length (rows_lines records.now)) × (out.new ≡ sets out.old 0 (rows_lines records.now)) }
 {
-    let (records, _) = tokens.as_chunks::<RECORD_WIDTH>();
     let mut end = 0;
-    for numbers in &records[..count] {
+    for numbers in records {
         end = put_line(&line_numbers(numbers), out, end);
     }
     end
@@ -163,7 +161,10 @@ pub fn list(
         return Err(OutShort);
     }
     match read_text(text, strictly(), tokens, strings, reports) {
-        Ok(counts) => Ok(put_lines(tokens, counts.tokens, out)),
+        Ok(counts) => {
+            let (records, _) = tokens.as_chunks::<RECORD_WIDTH>();
+            Ok(put_lines(&records[..counts.tokens], out))
+        }
         Err(refusal) => put_refusal(refusal.number(), out),
     }
 }

@@ -72,7 +72,7 @@ pub record Getting (file : List ℕ) (at end i n : ℕ) : Type 0 where
   pub value : n ≡ number_at file i (end - i)
   pub small : n < 256 ^ (end - i)
 
-number_cons : (l : List ℕ) (i w : ℕ) → i < length l → number_at l i (suc w) ≡ get_or l i 0 + 256 * number_at l (suc i) w
+pub number_cons : (l : List ℕ) (i w : ℕ) → i < length l → number_at l i (suc w) ≡ get_or l i 0 + 256 * number_at l (suc i) w
 unfolding unlittle
 number_cons l i w h = rw (drop-cons l i 0 h)
 

@@ -8,16 +8,16 @@ use native.Mathlib.Nat.{add-zero, add_assoc, mul-le-mul_right}
 use native.Mathlib.Omega.{arith}
 use lib.Dec.{eqb}
 use lib.ListN.{length, get_or, take}
-use lib.Seq.{sets, drop-drop}
-use borrow.Author.Tests.{le-leb, lt-leb, ne_eqb}
+use lib.Seq.{sets, drop-drop, get_or-take}
+use borrow.Author.Tests.{le-leb, lt-leb}
 use Rattle.base.specs.Bytes.{same_bytes}
 use Rattle.token_file.specs.Format.{little, unlittle, number_at, file_mark, row_width, row_bytes, header, bytes_row, file_width, file_count, framed}
 use Rattle.token_file.specs.Fits.{RowRead, offsets}
 use Rattle.token_file.specs.declared.row.Row.{Row}
 use Rattle.token_file.specs.declared.layout.Layout.{Layout}
 use Rattle.token_file.specs.declared.layout.Offsets.{Offsets}
-use Rattle.token_file.proofs.Numbers.{length_little, below_63}
-use Rattle.base.proofs.Tests.{and-false}
+use Rattle.token_file.proofs.Numbers.{length_little, below_63, number_cons}
+use Rattle.base.proofs.Tests.{and-true}
 use Rattle.base.proofs.Stores.{Stored, stored_then}
 
 -- ---- to bytes
@@ -78,44 +78,51 @@ pub file_fits : (y : Layout) (n : ℕ) → n < 0x100000000 → file_width y n < 
 unfolding file_width
 file_fits y n s = omega (arith, mul-le-mul_right n (row_width_le y))
 
--- the first bytes as a list
-mark_is : (l : List ℕ) → 3 ≤ length l → take 3 l ≡ get_or l 0 0 ∷ (get_or l 1 0 ∷ (get_or l 2 0 ∷ []))
+mark_is : (l : List ℕ) → 3 ≤ length l → same_bytes (take 3 l) file_mark ≡ eqb (get_or l 0 0) 79 && (eqb (get_or l 1 0) 70 && eqb (get_or l 2 0) 84)
+unfolding same_bytes
 mark_is [] h = absurd (omega arith)
 mark_is (a ∷ []) h = absurd (omega arith)
 mark_is (a ∷ (b ∷ [])) h = absurd (omega arith)
-mark_is (a ∷ (b ∷ (c ∷ l))) h = refl
+mark_is (a ∷ (b ∷ (c ∷ l))) h = rw (and-true (eqb c 84))
 
--- and the numbers after them
 version_is : (l : List ℕ) → 9 ≤ length l → number_at l 3 2 ≡ get_or l 3 0 + get_or l 4 0 * 256
 unfolding unlittle
-version_is (a ∷ b ∷ c ∷ d ∷ e ∷ l) h = omega arith
-version_is l h = absurd (omega arith)
+version_is l h = omega (arith, number_cons l 3 1 (omega arith), number_cons l 4 0 (omega arith))
 
 count_is : (l : List ℕ) → 9 ≤ length l → file_count l ≡ get_or l 5 0 + get_or l 6 0 * 256 + get_or l 7 0 * 65536 + get_or l 8 0 * 16777216
 unfolding unlittle file_count
-count_is (a ∷ b ∷ c ∷ d ∷ e ∷ f ∷ g ∷ h ∷ i ∷ l) k = omega arith
-count_is l k = absurd (omega arith)
+count_is l h =
+    omega (arith, number_cons l 5 3 (omega arith), number_cons l 6 2 (omega arith), number_cons l 7 1 (omega arith), number_cons l 8 0 (omega arith))
 
 module _ (y : Layout) (l : List ℕ) where
   pub short_framed : length l < 9 → framed y l ≡ false
   unfolding framed
   short_framed h = rw (lt-leb 9 (length l) h)
 
-  -- where a byte of the mark is another one
-  pub mark_0 : 9 ≤ length l → (get_or l 0 0 ≡ 79 → ⊥) → framed y l ≡ false
-  unfolding framed same_bytes
-  mark_0 h e = rw (le-leb 9 (length l) h, mark_is l (omega arith), ne_eqb (get_or l 0 0) 79 e)
+  -- the first nine bytes
+  module _ (h : 9 ≤ length l) {s : List ℕ} (e : s ≡ take 9 l) where
+    front : (k : ℕ) → k < 9 → get_or s k 0 ≡ get_or l k 0
+    front k m = rw e (get_or-take 9 l k 0 m)
 
-  pub mark_1 : 9 ≤ length l → (get_or l 1 0 ≡ 70 → ⊥) → framed y l ≡ false
-  unfolding framed same_bytes
-  mark_1 h e = rw (le-leb 9 (length l) h, mark_is l (omega arith), ne_eqb (get_or l 1 0) 70 e, and-false)
+    pub count_read : {n : ℕ} → n ≡ get_or s 5 0 + get_or s 6 0 * 256 + get_or s 7 0 * 65536 + get_or s 8 0 * 16777216 → n ≡ file_count l
+    count_read q = omega (arith, q, front 5 (omega arith), front 6 (omega arith), front 7 (omega arith), front 8 (omega arith), count_is l h)
 
-  pub mark_2 : 9 ≤ length l → (get_or l 2 0 ≡ 84 → ⊥) → framed y l ≡ false
-  unfolding framed same_bytes
-  mark_2 h e = rw (le-leb 9 (length l) h, mark_is l (omega arith), ne_eqb (get_or l 2 0) 84 e, and-false, and-false)
+    version_read : {v : ℕ} → v ≡ get_or s 3 0 + get_or s 4 0 * 256 → v ≡ number_at l 3 2
+    version_read q = omega (arith, q, front 3 (omega arith), front 4 (omega arith), version_is l h)
 
-  pub framed_is : 9 ≤ length l → get_or l 0 0 ≡ 79 → get_or l 1 0 ≡ 70 → get_or l 2 0 ≡ 84 → {v n w : ℕ}
-      → v ≡ get_or l 3 0 + get_or l 4 0 * 256 → n ≡ get_or l 5 0 + get_or l 6 0 * 256 + get_or l 7 0 * 65536 + get_or l 8 0 * 16777216
-      → w ≡ file_width y n → framed y l ≡ eqb v y.version && eqb (length l) w
-  unfolding framed
-  framed_is h m₀ m₁ m₂ ev en ew = rw (le-leb 9 (length l) h, mark_is l (omega arith), m₀, m₁, m₂, version_is l h, count_is l h, ew, en, ev) ?
+    pub framed_is : {v n w : ℕ} → v ≡ get_or s 3 0 + get_or s 4 0 * 256
+        → n ≡ get_or s 5 0 + get_or s 6 0 * 256 + get_or s 7 0 * 65536 + get_or s 8 0 * 16777216 → w ≡ file_width y n → {b : Bool}
+        → (eqb (get_or s 0 0) 79 && (eqb (get_or s 1 0) 70 && eqb (get_or s 2 0) 84)) && (eqb v y.version && eqb (length l) w) ≡ b → framed y l ≡ b
+    unfolding framed
+    framed_is ev en ew t =
+        rw (
+          le-leb 9 (length l) h,
+          mark_is l (omega arith),
+          ← t,
+          ew,
+          ← count_read en,
+          ← version_read ev,
+          front 0 (omega arith),
+          front 1 (omega arith),
+          front 2 (omega arith),
+        )

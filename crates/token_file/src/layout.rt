@@ -18,7 +18,7 @@ pub struct Layout {
     pub ghost narrow: { (kind ≤ 7) × (reason ≤ 7) × (start ≤ 7) × (end ≤ 7) × (line ≤ 7) × (column ≤ 7) },
 }
 
-// Where the numbers of a row begin in a file.
+// Where the numbers of a row begin in a file. A type of its own beside `Layout` and `Row`, so that no offset is taken for a width or for a number of a row.
 #[derive(Clone, Copy, PartialEq, Eq, Debug)]
 pub(crate) struct Offsets {
     pub kind: usize,

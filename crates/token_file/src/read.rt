@@ -64,12 +64,11 @@ impl<'a> Framed<'a> {
     fn parse(file: &'a [u8], layout: Layout) -> Option<Self>
         ensures { MatchOption result (framed layout file.now ≡ false) (λ f. FrameRead layout file.now f.file.now f.layout f.count) }
     {
-        let [b'O', b'F', b'T', v0, v1, c0, c1, c2, c3, ..] = *file else {
-            return None;
-        };
+        let [o, f, t, v0, v1, c0, c1, c2, c3] = *file.first_chunk::<HEADER_WIDTH>()?;
+        let mark = (o == b'O') & ((f == b'F') & (t == b'T'));
         let version = usize::from(u16::from_le_bytes([v0, v1]));
         let count = u32::from_le_bytes([c0, c1, c2, c3]) as usize;
-        if (version != layout.version) | (file.len() != layout.file_width(count)) {
+        if !(mark & ((version == layout.version) & (file.len() == layout.file_width(count)))) {
             return None;
         }
         Some(Self {
@@ -88,8 +87,8 @@ impl<'a> Framed<'a> {
         get_row(self.file, self.layout.file_width(i), self.layout)
     }
 
-    // Whether the rows keep the rules. One loop for these and for records, which may have numbers below 0, would take a trait with two impls
-    // in place of seven lines.
+    // Whether the rows keep the rules. One loop for these and for records, which may have numbers below 0, would take a closure that gives a row or none:
+    // its contract would have to say what each call gives, and each row of a file would be tested for being there.
     fn rules_hold(&self) -> bool
         ensures { result ≡ rows_ok reason_ok 0 (bytes_rows self.now.layout self.now.count (drop header_width self.now.file.now)) }
     {
@@ -104,7 +103,7 @@ impl<'a> Framed<'a> {
         self.count != 0
     }
 
-    // Stores the records of the rows: numbers, where the writer's loop stores bytes.
+    // Stores the records of the rows: numbers, where the writer's loop stores bytes. By number here and there: `chunks_exact` asks that a row is not empty.
     fn store(&self, tokens: &mut [i64])
         requires { self.now.count * record_width ≤ length tokens.old }
         ensures { tokens.new ≡ sets tokens.old 0 (rows_numbers (bytes_rows self.now.layout self.now.count (drop header_width self.now.file.now))) }

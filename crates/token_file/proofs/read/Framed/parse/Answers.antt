@@ -1,26 +1,26 @@
 -- `parse` gives the file where `framed` is true: the same tests in the same order. Assumes nothing.
-use mathlib.Core.Path.{◌≡◌, refl}
+use mathlib.Core.Path.{refl, ◌∙◌}
 use native.Mathlib.Omega.{arith}
-use borrow.Author.Tests.{eq-eqb, ne_eqb}
-use Rattle.std.proofs.Common.{tests}
-use Rattle.token_file.proofs.Rows.{file_fits, short_framed, framed_is, count_is, mark_0, mark_1, mark_2}
-use Rattle.token_file.proofs.read.Framed.parse.Goals.{in_default-via-then-file-lt9, in_default-via-else-file-lt9+in-79+in-70+in_default-1, in_default-via-else-file-lt9+in-79+in_default-1, in_default-via-else-file-lt9+in_default-1}
+use Rattle.token_file.proofs.Rows.{file_fits, short_framed, framed_is, count_read}
 use Rattle.token_file.proofs.read.Framed.parse.Goals as goal
 
-pub returns-in_default : goal.returns-in_default
-returns-in_default c =
-    elim c.in_default.branch [
-      | in_default-via-then-file-lt9 w ↦ ?
-      | in_default-via-else-file-lt9+in-79+in-70+in_default-1 w ↦ mark_2 _ _ (omega arith) (λ e. omega arith)
-      | in_default-via-else-file-lt9+in-79+in_default-1 w ↦ mark_1 _ _ (omega arith) (λ e. omega arith)
-      | in_default-via-else-file-lt9+in_default-1 w ↦ mark_0 _ _ (omega arith) (λ e. omega arith)
-    ]
+pub returns-in_err-o : goal.returns-in_err-o
+returns-in_err-o c = rw c.from_residual.ensures (short_framed _ _ c.in_err-o.ensures.cases)
 
 pub file_width-requires : goal.file_width-requires
 file_width-requires c = file_fits _ _ (omega arith)
 
-pub returns-then-version-layout : goal.returns-then-version-layout
-returns-then-version-layout c = ?
+pub returns-then-not-mark-version : goal.returns-then-not-mark-version
+returns-then-not-mark-version c =
+    let f = c.in_ok-o.ensures.cases in
+    framed_is _ _ f.enough f.same (c.from-version.ensures ∙ c.from_le_bytes.ensures) c.from_le_bytes-count.ensures c.file_width.ensures c.if-not-mark-version.true
 
 pub returns : goal.returns
-returns c = ?
+returns c =
+    let f = c.in_ok-o.ensures.cases in
+    record {
+      right = framed_is _ _ f.enough f.same (c.from-version.ensures ∙ c.from_le_bytes.ensures) c.from_le_bytes-count.ensures c.file_width.ensures c.if-not-mark-version.false;
+      same_file = refl;
+      same_layout = refl;
+      counted = count_read c.args.layout c.args.file.now f.enough f.same c.from_le_bytes-count.ensures;
+    }

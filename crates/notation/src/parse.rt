@@ -22,7 +22,7 @@ fn digit(b: u8) -> Option<u8>
     }
 }
 
-// The byte that two hexadecimal digits write. What is none counts as 16.
+// The byte that two hexadecimal digits write. What is none counts as 16: the programs answer each line that they read, and have no answer for such a one.
 pub fn hex_byte(high: u8, low: u8) -> u8
     ensures { result ≡ hex_byte high low }
 {
@@ -57,7 +57,8 @@ fn signed(s: &[u8]) -> i64 {
     }
 }
 
-// Stores the signed numbers of the words, as many as there is room for, and gives them.
+// Stores the signed numbers of the words, as many as there is room for, and gives them. By an index: with a `zip`, as below, the words would have to be
+// counted as well.
 pub fn numbers<'a>(s: &[u8], out: &'a mut [i64]) -> &'a [i64]
     ensures { length result.now ≤ length out.old }
 {

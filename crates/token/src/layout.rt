@@ -10,7 +10,7 @@ pub const RECORD_WIDTH: usize = 12;
 pub const REPORT_WIDTH: usize = 5;
 
 // What a token record says. Kind and reason are numbers: the row of a token file can have any.
-#[derive(Clone, Copy, PartialEq, Eq, Debug)]
+#[derive(Clone, Copy, PartialEq, Eq, Debug, Default)]
 pub struct Record {
     pub kind: usize,
     pub reason: usize,

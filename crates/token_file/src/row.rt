@@ -58,16 +58,11 @@ impl From<Row> for Record {
         Self {
             kind: row.kind,
             reason: row.reason,
-            detail: 0,
             start: row.start,
             end: row.end,
             line: row.line,
             column: row.column,
-            value: 0,
-            size: 0,
-            precision: 0,
-            digits: 0,
-            nanos: 0,
+            ..Self::default()
         }
     }
 }

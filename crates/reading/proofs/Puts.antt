@@ -1,17 +1,13 @@
 -- For `put_notes`: a token which counts no report has none. By the room for a token. Assumes nothing.
-use mathlib.Core.Path.{◌≡◌, sym, ◌∙◌}
+use mathlib.Core.Path.{◌≡◌, ◌∙◌}
 use mathlib.Core.List.{List, []}
-use Prim.Native.Nat.{ℕ, ◌+◌, ◌-◌, ◌≤◌}
-use native.Mathlib.Omega.{arith}
-use lib.ListN.{drop}
+use Prim.Native.Nat.{ℕ}
 use Rattle.base.proofs.Stores.{empty}
 use Rattle.lexeme.specs.Helpers.{notes_numbers}
-use Rattle.lexer.specs.Token.{string_size}
-use Rattle.lexer.specs.Helpers.{StringFront, ReportRoom}
 use Rattle.lexer.specs.declared.next.Token.{Token}
 use Rattle.lexer.specs.declared.reading.Reading.{Reading}
-use Rattle.reading.specs.Passes.{StringRoom, NotesRoom}
-use Rattle.reading.proofs.NextToken.{string_at, notes_at, numbers_at}
+use Rattle.reading.specs.Passes.{NotesRoom}
+use Rattle.reading.proofs.NextToken.{notes_at, numbers_at}
 
 module _ {m : Reading} {limit : ℕ} {text : List ℕ} {t : Token} {room at : ℕ} (h : NotesRoom m limit text t room at) where
   pub no_reports : t.reports ≡ 0 → numbers_at m limit text t ≡ []

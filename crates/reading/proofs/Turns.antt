@@ -101,6 +101,13 @@ pub record Measuring (m : Reading) (limit : ℕ) (text : List ℕ) (at : ℕ) (n
 abbrev pub none_yet : Counts
 none_yet = record { tokens = 0; strings = 0; reports = 0 }
 
+-- which are the default
+pub none_is : {c : Counts} → (c.tokens ≡ 0) × ((c.strings ≡ 0) × (c.reports ≡ 0)) → c ≡ none_yet
+none_is {c} e =
+    let whole : ◌≡◌ {A = Counts} (record { tokens = c.tokens; strings = c.strings; reports = c.reports }) none_yet =
+    rw (e.0, e.1.0, e.1.1) refl in
+    whole
+
 -- the counts after a token of the kind, with a value of so many bytes and so many reports
 abbrev pub counted_on : Counts → TokenKind → ℕ → ℕ → Counts
 counted_on n k size reports = record { tokens = n.tokens + 1; strings = n.strings + string_size k size; reports = n.reports + reports }

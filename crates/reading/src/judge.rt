@@ -1,5 +1,6 @@
 // The checks of the text that every call makes first.
-ghost use Rattle.std.specs.Prelude.{◌≡◌};
+ghost use Rattle.std.specs.Prelude.{◌≡◌, Ok};
+ghost use Rattle.base.specs.Bytes.{AreBytes};
 ghost use Rattle.reading.specs.Refusals.{judge_of};
 
 use crate::refusal::Refusal;
@@ -15,4 +16,12 @@ pub fn judge(text: &[u8]) -> Result<(), Refusal>
         return Err(Refusal::TooLong);
     }
     check(text).map_err(|error| Refusal::NotUtf8(error.valid_up_to))
+}
+
+// A text that has passed them: short enough, and UTF-8. Its type says the bytes too, but a method's proof sees of a field only what the struct says.
+#[derive(Clone, Copy)]
+pub(crate) struct Judged<'a> {
+    pub(crate) text: &'a [u8],
+    pub(crate) ghost fit: { judge_of text.now ≡ Ok tt },
+    pub(crate) ghost bytes: { AreBytes text.now },
 }

@@ -1,11 +1,10 @@
 // One token from a place.
-ghost use Rattle.std.specs.Prelude.{◌≡◌, ◌≤◌, length};
-ghost use Rattle.limits.specs.Limits.{max_message_size};
+ghost use Rattle.std.specs.Prelude.{◌≡◌};
 ghost use Rattle.reading.specs.Answers.{is_place};
 ghost use Rattle.reading.specs.Calls.{ReadsToken};
 
 use crate::counts::Counts;
-use crate::judge::judge;
+use crate::judge::{Judged, judge};
 use crate::place::good_offset;
 use crate::put::Buffers;
 use crate::refusal::Refusal;
@@ -22,13 +21,15 @@ pub struct OneToken {
     pub end: Place,
 }
 
-// Whether a place is one of the text, with its line and column. Any numbers may come.
-#[tactic(auto, unfolding(crate::specs::Answers::is_place))]
-fn is_place(text: &[u8], place: Place) -> bool
-    requires { length text.now ≤ max_message_size }
-    ensures { result ≡ is_place text.now place }
-{
-    good_offset(text, place.offset) && place == walk(text, Place::first(), place.offset)
+impl Judged<'_> {
+    // Whether a place is one of the text, with its line and column. Any numbers may come.
+    #[tactic(auto, unfolding(crate::specs::Answers::is_place))]
+    fn is_place(self, place: Place) -> bool
+        ensures { result ≡ is_place self.entry.text.now place }
+    {
+        let text = self.text;
+        good_offset(text, place.offset) && place == walk(text, Place::first(), place.offset)
+    }
 }
 
 // Reads the token after a place: its record, its string and its reports, each from the buffer's start.
@@ -43,7 +44,8 @@ pub fn read_token(
     ensures { ReadsToken how.mode how.limit text.now place tokens.old strings.old reports.old result tokens.new strings.new reports.new }
 {
     judge(text)?;
-    if !is_place(text, place) {
+    let judged = Judged { text };
+    if !judged.is_place(place) {
         return Err(Refusal::NoPlace);
     }
     let here = Cursor { text, place };

@@ -1,13 +1,11 @@
 // The whole reading of a text: it measures completely, then writes.
-ghost use Rattle.std.specs.Prelude.{◌≡◌, ◌≤◌, length};
-ghost use Rattle.limits.specs.Limits.{max_message_size};
-ghost use Rattle.utf8.specs.Grammar.{Octets};
+ghost use Rattle.std.specs.Prelude.{◌≡◌, length};
 ghost use Rattle.reading.specs.Buffers.{whole_laid, counts_of};
 ghost use Rattle.reading.specs.Calls.{ReadsText};
 ghost use Rattle.reading.specs.Passes.{RoomIn, StoredIn, SameBuffers, most_counts};
 
 use crate::counts::Counts;
-use crate::judge::judge;
+use crate::judge::{Judged, judge};
 use crate::put::Buffers;
 use crate::refusal::Refusal;
 use lexeme::Mode;
@@ -16,62 +14,65 @@ use lexer::next::{next_lexeme, string_size};
 use lexer::reading::{Reading, Settings};
 use token::place::Place;
 
-// The first pass: it counts, and needs no places.
-fn measure(text: &[u8], how: Settings) -> Counts
-    requires { (length text.now ≤ max_message_size) × Octets text.now }
-    ensures { result ≡ counts_of (whole_laid how.mode how.limit text.now) }
-{
-    let mut counts = Counts::default();
-    let mut at = 0;
-    // A `loop`, as in `write`: the step is the length of the token that was found.
-    'tokens: loop {
-        let found = next_lexeme(text, at, how);
-        let x = found.lexeme;
-        counts.tokens += 1;
-        if x.kind.is_eof() {
-            return counts;
+impl Judged<'_> {
+    // The first pass: it counts, and needs no places.
+    fn measure(self, how: Settings) -> Counts
+        ensures { result ≡ counts_of (whole_laid how.mode how.limit self.entry.text.now) }
+    {
+        let text = self.text;
+        let mut counts = Counts::default();
+        let mut at = 0;
+        // A `loop`, as in `write`: the step is the length of the token that was found.
+        'tokens: loop {
+            let found = next_lexeme(text, at, how);
+            let x = found.lexeme;
+            counts.tokens += 1;
+            if x.kind.is_eof() {
+                return counts;
+            }
+            counts.strings += string_size(x.kind, x.size);
+            counts.reports += x.reports;
+            at = found.start + x.len;
         }
-        counts.strings += string_size(x.kind, x.size);
-        counts.reports += x.reports;
-        at = found.start + x.len;
     }
-}
 
-// The second pass: each token's record, string and reports, one after the other. It counts too.
-fn write(text: &[u8], how: Settings, buffers: &mut Buffers<'_>) -> Counts
-    requires { (length text.now ≤ max_message_size) × RoomIn (whole_laid how.mode how.limit text.now) buffers.old × Octets text.now }
-    ensures same_buffers { SameBuffers buffers.old buffers.new }
-    ensures counted { result ≡ counts_of (whole_laid how.mode how.limit text.now) }
-    ensures stored { StoredIn (whole_laid how.mode how.limit text.now) buffers.old buffers.new }
-{
-    let mut counts = Counts::default();
-    let mut place = Place::first();
-    'tokens: loop {
-        let here = Cursor { text, place };
-        let t = here.each_token(how);
-        buffers.put(text, t, how, counts);
-        counts.tokens += 1;
-        if t.kind.is_eof() {
-            return counts;
+    // The second pass: each token's record, string and reports, one after the other. It counts too.
+    fn write(self, how: Settings, buffers: &mut Buffers<'_>) -> Counts
+        requires { RoomIn (whole_laid how.mode how.limit self.text.now) buffers.old }
+        ensures same_buffers { SameBuffers buffers.old buffers.new }
+        ensures counted { result ≡ counts_of (whole_laid how.mode how.limit self.entry.text.now) }
+        ensures stored { StoredIn (whole_laid how.mode how.limit self.entry.text.now) buffers.old buffers.new }
+    {
+        let text = self.text;
+        let mut counts = Counts::default();
+        let mut place = Place::first();
+        'tokens: loop {
+            let here = Cursor { text, place };
+            let t = here.each_token(how);
+            buffers.put(text, t, how, counts);
+            counts.tokens += 1;
+            if t.kind.is_eof() {
+                return counts;
+            }
+            counts.strings += string_size(t.kind, t.size);
+            counts.reports += t.reports;
+            place = t.end;
         }
-        counts.strings += string_size(t.kind, t.size);
-        counts.reports += t.reports;
-        place = t.end;
     }
-}
 
-// The most that any text of so many bytes can have: a token for each byte and the Eof, and reports in the tolerant mode alone.
-fn most(mode: Reading, len: usize) -> Counts
-    requires { len ≤ max_message_size }
-    ensures { result ≡ most_counts mode len }
-{
-    Counts {
-        tokens: len + 1,
-        strings: len,
-        reports: match Mode::from(mode) {
-            Mode::Strict => 0,
-            Mode::Tolerant => len,
-        },
+    // The most that any text of its length can have: a token for each byte and the Eof, and reports in the tolerant mode alone.
+    fn most(self, mode: Reading) -> Counts
+        ensures { result ≡ most_counts mode (length self.entry.text.now) }
+    {
+        let len = self.text.len();
+        Counts {
+            tokens: len + 1,
+            strings: len,
+            reports: match Mode::from(mode) {
+                Mode::Strict => 0,
+                Mode::Tolerant => len,
+            },
+        }
     }
 }
 
@@ -87,14 +88,15 @@ pub fn read_text(
     ensures { ReadsText how.mode how.limit text.now tokens.old strings.old reports.old result tokens.new strings.new reports.new }
 {
     judge(text)?;
+    let judged = Judged { text };
     let (nt, ns, nr) = (tokens.len(), strings.len(), reports.len());
-    if most(how.mode, text.len()).fit(nt, ns, nr).is_err() {
-        measure(text, how).fit(nt, ns, nr)?;
+    if judged.most(how.mode).fit(nt, ns, nr).is_err() {
+        judged.measure(how).fit(nt, ns, nr)?;
     }
     let mut buffers = Buffers {
         tokens,
         strings,
         reports,
     };
-    Ok(write(text, how, &mut buffers))
+    Ok(judged.write(how, &mut buffers))
 }

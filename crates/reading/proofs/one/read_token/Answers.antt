@@ -9,6 +9,7 @@ use Rattle.reading.specs.Answers.{is_place}
 use Rattle.reading.proofs.Refusals.{fitting, well_octets}
 use Rattle.reading.proofs.TokenAnswers.{walkable, few, counted, unfit, no_place, short, Passed, room, stored, done}
 use Rattle.reading.proofs.Rows.{held_by}
+use Rattle.reading.proofs.Turns.{none_is}
 use Rattle.reading.proofs.one.read_token.Goals.{Else-not-is_place, In_ok-fit}
 use borrow.Author.Rules.{rules}
 use Rattle.reading.proofs.one.read_token.Goals as goal
@@ -38,9 +39,6 @@ pub returns-in_err-judge : goal.returns-in_err-judge
 returns-in_err-judge c =
     let p = err_from_is_err_and c.from_residual.result c.from_residual.ensures.1 in
     rw (p.1, p.2) (unfit (sym c.in_err-judge.ensures))
-
-pub is_place-requires : goal.is_place-requires
-is_place-requires c = (fitting _ (sym c.in_ok-judge.ensures)).0
 
 pub returns-then-not-is_place : goal.returns-then-not-is_place
 returns-then-not-is_place c = no_place (sym c.in_ok-judge.ensures) (sym c.is_place.ensures ∙ c.if-not-is_place.true)
@@ -72,12 +70,10 @@ returns-in_err-fit c =
 pub put-requires : goal.put-requires
 put-requires c =
     let at = goal.at.put-requires c in
-    let e = c.default.ensures in
-    rw (e.0, e.1.0, e.1.1) (room (passed at.In_ok-fit) (λ k. (c.type_inv.text k).fits) refl refl refl)
+    rw (none_is c.default.ensures) (room (passed at.In_ok-fit) (λ k. (c.type_inv.text k).fits) refl refl refl)
 
 pub returns : goal.returns
 returns c =
     let at = goal.at.returns c in
-    let e = c.default.ensures in
     let w = passed at.In_ok-fit in
-    done w (held_by (stored w (rw (e.0, e.1.0, e.1.1) at c.put.ensures.put)) (search rules) (search rules) (search rules))
+    done w (held_by (stored w (rw (none_is c.default.ensures) at c.put.ensures.put)) (search rules) (search rules) (search rules))

@@ -5,7 +5,7 @@ use lib.ListN.{length}
 use Rattle.std.proofs.lemmas.Result.{err_from_is_err_and}
 use Rattle.reading.specs.Buffers.{whole_laid}
 use Rattle.reading.specs.Passes.{Room}
-use Rattle.reading.proofs.Refusals.{fitting, well_octets, enough}
+use Rattle.reading.proofs.Refusals.{enough}
 use Rattle.reading.proofs.Fits.{suffice_room}
 use Rattle.reading.proofs.Rows.{held_by}
 use Rattle.reading.proofs.TextAnswers.{most_few, few, unfit, short, done}
@@ -27,14 +27,8 @@ returns-in_err-judge c =
     let p = err_from_is_err_and c.from_residual.result c.from_residual.ensures.1 in
     rw (p.1, p.2) (unfit (sym c.in_err-judge.ensures))
 
-pub most-requires : goal.most-requires
-most-requires c = (fitting _ (sym c.in_ok-judge.ensures)).0
-
 pub fit-requires : goal.fit-requires
 fit-requires c = most_few _ _ (sym c.in_ok-judge.ensures) c.most.ensures
-
-pub measure-requires : goal.measure-requires
-measure-requires c = let f = fitting _ (sym c.in_ok-judge.ensures) in (f.0, well_octets _ f.1)
 
 pub fit-requires-then-is_err : goal.fit-requires-then-is_err
 fit-requires-then-is_err c = few _ _ _ (sym c.in_ok-judge.ensures) c.measure.ensures
@@ -46,10 +40,7 @@ returns-in_err-fit c =
     (short (sym c.in_ok-judge.ensures) (rw c.measure.ensures at (sym c.fit-then-is_err.ensures ∙ c.in_err-fit.was)))
 
 pub write-requires : goal.write-requires
-write-requires c =
-    let at = goal.at.write-requires c in
-    let f = fitting _ (sym c.in_ok-judge.ensures) in
-    (f.0, roomy at.Joined-is_err, well_octets _ f.1)
+write-requires c = roomy (goal.at.write-requires c).Joined-is_err
 
 pub returns : goal.returns
 returns c =

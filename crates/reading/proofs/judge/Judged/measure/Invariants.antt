@@ -2,10 +2,10 @@
 use Prim.Native.Nat.{◌-◌}
 use lib.ListN.{length}
 use Rattle.reading.proofs.Turns.{Measuring}
-use Rattle.reading.proofs.text.measure.Given as goal
+use Rattle.reading.proofs.judge.Judged.measure.Given as goal
 
 abbrev pub invariant-tokens : goal.invariant-tokens
-invariant-tokens l = Measuring l.how.mode l.how.limit l.text l.at l.counts
+invariant-tokens l = Measuring l.how.mode l.how.limit l.self.text.now l.at l.counts
 
 abbrev pub decreases-tokens : goal.decreases-tokens
-decreases-tokens l = length l.text - l.at
+decreases-tokens l = length l.self.text.now - l.at

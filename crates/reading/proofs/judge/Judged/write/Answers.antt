@@ -3,17 +3,18 @@ use mathlib.Core.Path.{sym, ◌∙◌}
 use native.Mathlib.Omega.{arith}
 use borrow.Author.Tests.{eqb-true, eqb-false}
 use Rattle.utf8.proofs.Valid.{octets_valid}
-use Rattle.reading.proofs.Turns.{passing_start, passing_less, passing_few, passing_room, passing_turn, passing_end}
-use Rattle.reading.proofs.text.write.Goals as goal
+use Rattle.reading.proofs.Refusals.{fitting, well_octets}
+use Rattle.reading.proofs.Turns.{none_is, passing_start, passing_less, passing_few, passing_room, passing_turn, passing_end}
+use Rattle.reading.proofs.judge.Judged.write.Goals as goal
 
 pub tokens-init : goal.tokens-init
-tokens-init c = let e = c.default-counts.ensures in rw (e.0, e.1.0, e.1.1) (search passing_start)
+tokens-init c = let short = (fitting _ c.args.self.fit).0 in rw (none_is c.default-counts.ensures) (search passing_start)
 
 pub invariant_of-here : goal.invariant_of-here
-invariant_of-here c = record { walkable = c.tokens.invariant.walkable; well_formed = octets_valid c.requires.2 }
+invariant_of-here c = record { walkable = c.tokens.invariant.walkable; well_formed = octets_valid (well_octets _ (fitting _ c.args.self.fit).1) }
 
 pub put-requires : goal.put-requires
-put-requires c = passing_room c.tokens.invariant c.each_token-t.ensures (λ k. (c.type_inv.text k).fits)
+put-requires c = passing_room c.tokens.invariant c.each_token-t.ensures c.args.self.bytes
 
 pub returns-then-is_eof : goal.returns-then-is_eof
 returns-then-is_eof c =

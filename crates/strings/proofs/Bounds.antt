@@ -19,6 +19,7 @@ use Rattle.lexeme.specs.declared.Mode.TheVariants.{Strict, Tolerant}
 use Rattle.strings.specs.Decode.{Decoded, step_notes, prepend, stopped}
 use Rattle.strings.specs.Literal.{literal_of, end_reason, end_detail, literal_end}
 use Rattle.strings.specs.declared.literal.End.{End}
+use Rattle.strings.specs.declared.piece.BadEscape.{BadEscape}
 use Rattle.strings.specs.declared.literal.End.TheVariants as end
 use Rattle.strings.proofs.PieceFacts.{Taken}
 use Rattle.strings.proofs.Decodes.{from, Went, Named, Ended, by_steps}
@@ -37,8 +38,8 @@ reason_le m l end.Closed n = lit≤ tt
 reason_le m l end.AtNewline n = lit≤ tt
 reason_le m l end.Cut n = lit≤ tt
 reason_le m l end.Open n = lit≤ tt
-reason_le Strict l (end.Bad reason letter) n = omega (arith, n.high)
-reason_le Tolerant l (end.Bad reason letter) n = absurd n
+reason_le Strict l (end.Bad x) n = omega (arith, n.high)
+reason_le Tolerant l (end.Bad x) n = absurd n
 
 pub bounds : (m : Mode) (s : List ℕ) (i : ℕ) → i ≤ length s → Bounds s i (from m s i)
 bounds m s = by_steps m s (Bounds s) stops goes
@@ -70,22 +71,22 @@ pub record Sound (s : List ℕ) (e : End) : Type 0 where
   pub detail : end_detail e ≡ 0
   pub stays : (x : ℕ) → literal_end s e x ≡ x
 
-other_sound : (s : List ℕ) (e : End) → ((reason : Reason) (letter : ℕ) → e ≡ end.Bad reason letter → Sound s e) → Sound s e
+other_sound : (s : List ℕ) (e : End) → ((x : BadEscape) → e ≡ end.Bad x → Sound s e) → Sound s e
 unfolding end_detail literal_end
 other_sound s end.Closed f = record { detail = refl; stays = λ x. refl }
 other_sound s end.AtNewline f = record { detail = refl; stays = λ x. refl }
 other_sound s end.Cut f = record { detail = refl; stays = λ x. refl }
 other_sound s end.Open f = record { detail = refl; stays = λ x. refl }
-other_sound s (end.Bad reason letter) f = f reason letter refl
+other_sound s (end.Bad x) f = f x refl
 
 -- a strict ending without a reason is none
 pub zero_sound : (s : List ℕ) (e : End) → end_reason e ≡ None → Sound s e
 unfolding end_reason
-zero_sound s e z = other_sound s e (λ r l q. let n : Some r ≡ None = rw q at z in zero_one (cc))
+zero_sound s e z = other_sound s e (λ x q. let n : Some x.reason ≡ None = rw q at z in zero_one (cc))
 
 -- a tolerant one is none
 pub tolerant_sound : (s : List ℕ) → 0 < length s → Sound s (literal_of Tolerant s).ending
 unfolding literal_of
 tolerant_sound s h =
-    by_steps Tolerant s (λ (i : ℕ) (d : Decoded). Sound s d.ending) (λ i e p k g u. other_sound s e (λ r l q. absurd (rw q at u.named)))
+    by_steps Tolerant s (λ (i : ℕ) (d : Decoded). Sound s d.ending) (λ i e p k g u. other_sound s e (λ x q. absurd (rw q at u.named)))
     (λ i enc used reason r k w v. v) 1 h

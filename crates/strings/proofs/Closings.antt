@@ -61,7 +61,7 @@ closing at zero (x ∷ l) z = rw (add-zero at) (go (piece_of (x ∷ l)) (piece_f
               v.text (omega (arith, v.longer)) ∙ ap (λ (j : ℕ). take (length r.bytes) (drop j l)) y in
               rw w.1 (ap (λ (j : List ℕ). x ∷ j) g);
         }
-    go (piece.Bad reason letter used) f ih z = zero_one (cc)
+    go (piece.Bad x used) f ih z = zero_one (cc)
     go piece.Close f ih z = record { longer = omega arith; text = λ e. refl }
     go piece.Newline f ih z = zero_one (cc)
     go piece.Cut f ih z = zero_one (cc)

@@ -29,6 +29,7 @@ use Rattle.strings.specs.Plain.{is_ordinary, in_ordinary, simple_at, simple_byte
 use Rattle.strings.specs.Plain as plain
 use Rattle.strings.specs.Decode.{Decoded, step_of, step_notes, prepend, stopped, follow, decode}
 use Rattle.strings.specs.Literal.{end_reason}
+use Rattle.strings.specs.declared.piece.BadEscape.{BadEscape}
 use Rattle.strings.specs.declared.piece.Piece.{Piece}
 use Rattle.strings.specs.declared.piece.Piece.TheVariants as piece
 use Rattle.strings.specs.declared.literal.End.{End}
@@ -51,18 +52,18 @@ pub data Clean (l : List ℕ) (k : ℕ) : Type 0 where
   after : 0 < k → byte l (k - 1) < 0x80 → Clean l k
   before : byte l k < 0x80 → Clean l k
 
--- the reason and the letter of a bad escape that ends a literal, which only a strict one can have
-pub record Blamed (l : List ℕ) (reason : Reason) (letter : ℕ) : Type 0 where
-  pub high : reason_number reason ≤ reasons.unknown_escape
-  pub named : letter ≡ byte l 1
+-- a bad escape that ends a literal, which only a strict one can have
+pub record Blamed (l : List ℕ) (x : BadEscape) : Type 0 where
+  pub high : reason_number x.reason ≤ reasons.unknown_escape
+  pub named : x.letter ≡ byte l 1
 
 abbrev pub Named : Mode → List ℕ → End → Type 0
 Named m l end.Closed = Unit
 Named m l end.AtNewline = Unit
 Named m l end.Cut = Unit
 Named m l end.Open = Unit
-Named Strict l (end.Bad reason letter) = Blamed l reason letter
-Named Tolerant l (end.Bad reason letter) = ⊥
+Named Strict l (end.Bad x) = Blamed l x
+Named Tolerant l (end.Bad x) = ⊥
 
 -- a step that ends the literal, k bytes of l being taken
 pub record Ended (m : Mode) (l : List ℕ) (e : End) (k : ℕ) : Type 0 where
@@ -90,15 +91,15 @@ module _ (m : Mode) (at : ℕ) (l : List ℕ) (e : End) (named : Named m l e) (f
 apt : (m : Mode) (at : ℕ) (l : List ℕ) (q : Piece) → PieceFacts l q → Apt m at l (step_of m at q)
 unfolding step_of end_reason
 apt m at l (piece.Bytes enc used) f = record { taken = f.bytes; count = f.count; named = λ r z. zero_one (cc) }
-apt Tolerant at l (piece.Bad reason letter used) f = record { taken = f.bytes; count = refl; named = λ _ _. f.named }
-apt Strict at l (piece.Bad reason letter used) f =
+apt Tolerant at l (piece.Bad x used) f = record { taken = f.bytes; count = refl; named = λ _ _. f.named }
+apt Strict at l (piece.Bad x used) f =
     let k : at + used - at ≡ used = omega arith in (
       omega arith,
       rw k
           (record {
             upto = f.bytes.left;
             named = record { high = f.high; named = f.named };
-            clean = λ n. after f.bytes.some (f.last (n reason refl));
+            clean = λ n. after f.bytes.some (f.last (n x.reason refl));
           }),
     )
 apt m at l piece.Close f = ends_after m at l end.Closed tt f

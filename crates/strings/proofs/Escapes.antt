@@ -15,8 +15,8 @@ use Rattle.base.specs.Choice.{pick}
 use Rattle.base.specs.Bytes.{byte}
 use Rattle.base.proofs.Tests.{and_left}
 use Rattle.utf8.specs.Character.{is_scalar, encode_of}
-use Rattle.token.specs.declared.reason.Reason.{Reason}
 use Rattle.strings.specs.Piece.{hex_of, bytes_piece, hex_count, hex_value, code_piece}
+use Rattle.strings.specs.declared.piece.BadEscape.{BadEscape}
 use Rattle.strings.specs.declared.piece.Piece.{Piece}
 use Rattle.strings.specs.declared.piece.Piece.TheVariants.{Bad}
 
@@ -55,10 +55,10 @@ module _ (n : ℕ) (l : List ℕ) (r k : ℕ) (long : n ≤ length l) (u : Run n
       u.count ∙ rw (s, drop-cons l k 0 (omega (arith, below)), count_cons, add-one k) refl
 
   -- a byte that is no digit
-  pub run_bad : (v : Option ℕ) (p : Piece) (reason : Reason) (letter : ℕ) → v ≡ hex_of (byte (take n l) k) → v ≡ None → p ≡ Bad reason letter (k + 2)
-      → p ≡ code_piece n reason letter l
+  pub run_bad : (v : Option ℕ) (p : Piece) (x : BadEscape) → v ≡ hex_of (byte (take n l) k) → v ≡ None → p ≡ Bad x (k + 2)
+      → p ≡ code_piece n x l
   unfolding code_piece
-  run_bad v p reason letter e f q =
+  run_bad v p x e f q =
       let c : hex_count n l ≡ k = count_here ∙ rw (← here, ← e, f) (omega arith) in
       q ∙ simp (le-ltb (length l) n long, c, lt-ltb k n below)
 
@@ -73,9 +73,9 @@ module _ (n : ℕ) (l : List ℕ) (r k : ℕ) (long : n ≤ length l) (u : Run n
       }
 
 -- too few bytes
-pub code_short : (p : Piece) (n : ℕ) (reason : Reason) (letter : ℕ) (l : List ℕ) → length l < n → p ≡ Bad reason letter 2 → p ≡ code_piece n reason letter l
+pub code_short : (p : Piece) (n : ℕ) (x : BadEscape) (l : List ℕ) → length l < n → p ≡ Bad x 2 → p ≡ code_piece n x l
 unfolding code_piece
-code_short p n reason letter l h q = q ∙ simp (lt-ltb (length l) n h)
+code_short p n x l h q = q ∙ simp (lt-ltb (length l) n h)
 
 -- all digits read
 module _ (n : ℕ) (l : List ℕ) (r k : ℕ) (long : n ≤ length l) (u : Run n l r k) (end : length (take n l) ≤ k) where
@@ -90,7 +90,7 @@ module _ (n : ℕ) (l : List ℕ) (r k : ℕ) (long : n ≤ length l) (u : Run n
   unfolding hex_value
   all_value = let z : n - k ≡ 0 = omega (arith, done) in u.value ∙ rw z refl
 
-  pub code_read : (p : Piece) (reason : Reason) (letter : ℕ) (v b : Bool) → v ≡ is_scalar r → v ≡ b
-      → p ≡ pick b (bytes_piece (encode_of r) (n + 2)) (Bad reason letter (n + 2)) → p ≡ code_piece n reason letter l
+  pub code_read : (p : Piece) (x : BadEscape) (v b : Bool) → v ≡ is_scalar r → v ≡ b
+      → p ≡ pick b (bytes_piece (encode_of r) (n + 2)) (Bad x (n + 2)) → p ≡ code_piece n x l
   unfolding code_piece
-  code_read p reason letter v b e f q = q ∙ simp (le-ltb (length l) n long, all_count, le-ltb n n (omega arith), all_value, ← e, f)
+  code_read p x v b e f q = q ∙ simp (le-ltb (length l) n long, all_count, le-ltb n n (omega arith), all_value, ← e, f)

@@ -59,7 +59,7 @@ end_le end.Closed = lit≤ tt
 end_le end.AtNewline = lit≤ tt
 end_le end.Cut = lit≤ tt
 end_le end.Open = lit≤ tt
-end_le (end.Bad reason letter) = lit≤ tt
+end_le (end.Bad x) = lit≤ tt
 
 -- the token of the reason and of the reports, k of them
 abbrev Made : List ℕ → Measure → ℕ → Lexeme → Option Reason → Type 0

@@ -85,7 +85,7 @@ none_closed end.Closed z = refl
 none_closed end.AtNewline z = zero_one (cc)
 none_closed end.Cut z = zero_one (cc)
 none_closed end.Open z = zero_one (cc)
-none_closed (end.Bad reason letter) z = zero_one (cc)
+none_closed (end.Bad y) z = zero_one (cc)
 
 string_closed : (m : Mode) (s : List ℕ) → literal_reason m (literal_of m s) ≡ None → m ≡ Strict → (literal_of m s).ending ≡ end.Closed
 string_closed Strict s z e = none_closed (literal_of Strict s).ending (unreasoned (literal_of Strict s) z)
@@ -158,7 +158,7 @@ end_case s p P f g end.Closed = f
 end_case s p P f g end.AtNewline = f
 end_case s p P f g end.Cut = f
 end_case s p P f g end.Open = f
-end_case s p P f g (end.Bad reason letter) = pick_case P (is_unknown_escape reason) (λ _. g) (λ _. f)
+end_case s p P f g (end.Bad y) = pick_case P (is_unknown_escape y.reason) (λ _. g) (λ _. f)
 
 letter_le : (reason : Reason) (letter : ℕ) → letter < 256 → letter_detail reason letter ≤ 255
 unfolding letter_detail
@@ -179,7 +179,7 @@ end_note s x end.Closed q = absurd (Memᴰ.not-nil q)
 end_note s x end.AtNewline q = start_note s x R.StringEndedAtNewline q
 end_note s x end.Cut q = start_note s x R.OpenEscape q
 end_note s x end.Open q = start_note s x R.OpenString q
-end_note s x (end.Bad reason letter) q = absurd (Memᴰ.not-nil q)
+end_note s x (end.Bad y) q = absurd (Memᴰ.not-nil q)
 
 module _ (m : Mode) (s : List ℕ) (h : 0 < length s) where
   letter_in : AreBytes s → (i letter : ℕ) → letter ≡ byte (drop i s) 1 → letter < 256
@@ -191,8 +191,8 @@ module _ (m : Mode) (s : List ℕ) (h : 0 < length s) where
   ending_detail w i end.AtNewline n bytes = lit≤ tt
   ending_detail w i end.Cut n bytes = lit≤ tt
   ending_detail w i end.Open n bytes = lit≤ tt
-  ending_detail Strict i (end.Bad reason letter) n bytes = letter_le reason letter (letter_in bytes i letter n.named)
-  ending_detail Tolerant i (end.Bad reason letter) n bytes = absurd n
+  ending_detail Strict i (end.Bad y) n bytes = letter_le y.reason y.letter (letter_in bytes i y.letter n.named)
+  ending_detail Tolerant i (end.Bad y) n bytes = absurd n
 
   step_notes_lem : (i : ℕ) (enc : Encoded) (used : ℕ) (reason : Option Reason) → i ≤ length s → Went (drop i s) enc used reason → (x : Note)
       → Memᴰ x (step_notes reason (byte enc.bytes 1) i) → NoteIn s x
@@ -281,9 +281,9 @@ module _ (m : Mode) (s : List ℕ) (h : 0 < length s) (b : Boundary s 0) where
     end_boundary end.AtNewline u = stop_boundary end.AtNewline u (λ r z. let e : R.NewlineInString ≡ r = cc in rw (← e) refl)
     end_boundary end.Cut u = stop_boundary end.Cut u (λ r z. let e : R.OpenEscape ≡ r = cc in rw (← e) refl)
     end_boundary end.Open u = stop_boundary end.Open u (λ r z. let e : R.OpenString ≡ r = cc in rw (← e) refl)
-    end_boundary (end.Bad reason letter) u =
-        pick_case (Boundary s) (is_unknown_escape reason) (λ _. char_end_boundary s p (stop_in (end.Bad reason letter) u) b)
-        (λ e. stop_boundary (end.Bad reason letter) u (λ r z. let q : reason ≡ r = cc in rw (← q) e))
+    end_boundary (end.Bad y) u =
+        pick_case (Boundary s) (is_unknown_escape y.reason) (λ _. char_end_boundary s p (stop_in (end.Bad y) u) b)
+        (λ e. stop_boundary (end.Bad y) u (λ r z. let q : y.reason ≡ r = cc in rw (← q) e))
 
   -- a literal at the front of a well-formed text ends between characters
   pub string_boundary : Boundary s (lex_string m s).len

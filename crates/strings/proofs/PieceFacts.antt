@@ -18,10 +18,10 @@ use Rattle.utf8.specs.declared.character.Encoded.{Encoded}
 use Rattle.utf8.proofs.RoundTrip.{encode_length, octets_encoded}
 use Rattle.token.specs.Reason as reasons
 use Rattle.token.specs.Reason.{reason_number, is_unknown_escape}
-use Rattle.token.specs.declared.reason.Reason.{Reason}
 use Rattle.token.specs.declared.reason.Reason.TheVariants as R
-use Rattle.strings.specs.Piece.{hex_of, oct_of, simple_of, byte_piece, hex_byte, hex_piece, oct_byte, oct_piece, hex_count, hex_value}
+use Rattle.strings.specs.Piece.{hex_of, oct_of, simple_of, bad_escape, byte_piece, hex_byte, hex_piece, oct_byte, oct_piece, hex_count, hex_value}
 use Rattle.strings.specs.Piece.{code_piece, letter_piece, escape_piece, piece_of}
+use Rattle.strings.specs.declared.piece.BadEscape.{BadEscape}
 use Rattle.strings.specs.declared.piece.Piece.{Piece}
 use Rattle.strings.specs.declared.piece.Piece.TheVariants.{Bytes, Bad, Close, Newline, Cut, Open}
 
@@ -43,15 +43,15 @@ escaped l v used t h =
     record { bytes = t; count = ap length (octets_encoded v t.four); own = λ e. absurd (omega arith) }
 
 -- a bad escape of `used` bytes at the front of l
-pub record Refused (l : List ℕ) (reason : Reason) (letter used : ℕ) : Type 0 where
+pub record Refused (l : List ℕ) (x : BadEscape) (used : ℕ) : Type 0 where
   pub bytes : Taken 2 used (length l)
-  pub high : reason_number reason ≤ reasons.unknown_escape
-  pub named : letter ≡ byte l 1
-  pub last : is_unknown_escape reason ≡ false → byte l (used - 1) < 0x80
+  pub high : reason_number x.reason ≤ reasons.unknown_escape
+  pub named : x.letter ≡ byte l 1
+  pub last : is_unknown_escape x.reason ≡ false → byte l (used - 1) < 0x80
 
-refused : (l : List ℕ) (reason : Reason) (letter used : ℕ) → Taken 2 used (length l) → reason_number reason ≤ reasons.unknown_escape → letter ≡ byte l 1
-    → (is_unknown_escape reason ≡ false → byte l (used - 1) < 0x80) → Refused l reason letter used
-refused l reason letter used t b n e = record { bytes = t; high = b; named = n; last = e }
+refused : (l : List ℕ) (x : BadEscape) (used : ℕ) → Taken 2 used (length l) → reason_number x.reason ≤ reasons.unknown_escape → x.letter ≡ byte l 1
+    → (is_unknown_escape x.reason ≡ false → byte l (used - 1) < 0x80) → Refused l x used
+refused l x used t b n e = record { bytes = t; high = b; named = n; last = e }
 
 -- an ASCII byte at the front
 pub record Front (l : List ℕ) : Type 0 where
@@ -60,7 +60,7 @@ pub record Front (l : List ℕ) : Type 0 where
 
 abbrev pub PieceFacts : List ℕ → Piece → Type 0
 PieceFacts l (Bytes enc used) = Given l enc used
-PieceFacts l (Bad reason letter used) = Refused l reason letter used
+PieceFacts l (Bad x used) = Refused l x used
 PieceFacts l Close = Front l
 PieceFacts l Newline = Front l
 PieceFacts l Cut = Front l
@@ -107,25 +107,25 @@ second_some (Some h) None f e = e
 second_some (Some h) (Some d) f e = refl
 
 module _ (t : List ℕ) (two : 1 < length t) where
-  bad_2 : (reason : Reason) (letter : ℕ) → reason_number reason ≤ reasons.unknown_escape → letter ≡ byte t 1
-      → (is_unknown_escape reason ≡ false → byte t 1 < 0x80) → PieceFacts t (Bad reason letter 2)
-  bad_2 reason letter hi nm h = refused t reason letter 2 (omega arith) hi nm h
+  bad_2 : (x : BadEscape) → reason_number x.reason ≤ reasons.unknown_escape → x.letter ≡ byte t 1
+      → (is_unknown_escape x.reason ≡ false → byte t 1 < 0x80) → PieceFacts t (Bad x 2)
+  bad_2 x hi nm h = refused t x 2 (omega arith) hi nm h
 
-  fine_byte : (reason : Reason) (letter : ℕ) (v : Option ℕ) → (is_some v ≡ true → 3 < length t) → reason_number reason ≤ reasons.unknown_escape
-      → letter ≡ byte t 1 → byte t 1 < 0x80 → PieceFacts t (byte_piece reason letter v)
-  fine_byte reason letter None l hi nm h = bad_2 reason letter hi nm (λ _. h)
-  fine_byte reason letter (Some b) l hi nm h = let four = l refl in escaped t (b ∷ []) 4 (omega arith) (lit≤ tt)
+  fine_byte : (x : BadEscape) (v : Option ℕ) → (is_some v ≡ true → 3 < length t) → reason_number x.reason ≤ reasons.unknown_escape
+      → x.letter ≡ byte t 1 → byte t 1 < 0x80 → PieceFacts t (byte_piece x v)
+  fine_byte x None l hi nm h = bad_2 x hi nm (λ _. h)
+  fine_byte x (Some b) l hi nm h = let four = l refl in escaped t (b ∷ []) 4 (omega arith) (lit≤ tt)
 
   fine_hex : byte t 1 ≡ 0x78 → PieceFacts t (hex_piece t)
   unfolding hex_piece hex_byte hex_of reason_number
   fine_hex x =
-      fine_byte R.BadX 0x78 (hex_byte t) (λ e. in_text (λ (c : ℕ). is_some (hex_of c)) t 3 refl (second_some (hex_of (byte t 2)) (hex_of (byte t 3)) _ e))
+      fine_byte (bad_escape R.BadX 0x78) (hex_byte t) (λ e. in_text (λ (c : ℕ). is_some (hex_of c)) t 3 refl (second_some (hex_of (byte t 2)) (hex_of (byte t 3)) _ e))
       (lit≤ tt) (sym x) (omega arith)
 
   fine_oct : byte t 1 < 0x80 → PieceFacts t (oct_piece (byte t 1) t)
   unfolding oct_piece oct_byte oct_of reason_number
   fine_oct h =
-      fine_byte R.BadOctal (byte t 1) (oct_byte (byte t 1) t)
+      fine_byte (bad_escape R.BadOctal (byte t 1)) (oct_byte (byte t 1) t)
       (λ e. in_text (λ (c : ℕ). is_some (oct_of c)) t 3 refl (second_some (oct_of (byte t 2)) (oct_of (byte t 3)) _ e)) (lit≤ tt) refl h
 
   -- what stands before the end of the digits that are counted
@@ -138,14 +138,14 @@ module _ (t : List ℕ) (two : 1 < length t) where
           let j : suc k + 2 - 1 ≡ 2 + k = omega arith in
           rw (j, ← get_or-drop 2 t k 0) (count_last n (drop 2 t) k e)
 
-  fine_code : (n : ℕ) (reason : Reason) (letter : ℕ) → 3 ≤ n → reason_number reason ≤ reasons.unknown_escape → letter ≡ byte t 1 → byte t 1 < 0x80
-      → PieceFacts t (code_piece n reason letter (drop 2 t))
+  fine_code : (n : ℕ) (x : BadEscape) → 3 ≤ n → reason_number x.reason ≤ reasons.unknown_escape → x.letter ≡ byte t 1 → byte t 1 < 0x80
+      → PieceFacts t (code_piece n x (drop 2 t))
   unfolding code_piece
-  fine_code n reason letter h hi nm ascii =
+  fine_code n x h hi nm ascii =
       let l = drop 2 t in
-      let bad : n ≤ length l → PieceFacts t (Bad reason letter (hex_count n l + 2)) =
-      λ b. refused t reason letter (hex_count n l + 2) (omega (arith, length-drop 2 t, count_le n l)) hi nm (λ _. code_last n ascii) in
-      pick_case (PieceFacts t) (ltb (length l) n) (λ _. bad_2 reason letter hi nm (λ _. ascii))
+      let bad : n ≤ length l → PieceFacts t (Bad x (hex_count n l + 2)) =
+      λ b. refused t x (hex_count n l + 2) (omega (arith, length-drop 2 t, count_le n l)) hi nm (λ _. code_last n ascii) in
+      pick_case (PieceFacts t) (ltb (length l) n) (λ _. bad_2 x hi nm (λ _. ascii))
       (λ e. let b : n ≤ length l = ltb-false (length l) n e in
       pick_case (PieceFacts t) (ltb (hex_count n l) n) (λ _. bad b)
       (λ f. pick_case (PieceFacts t) (is_scalar (hex_value n 0 l))
@@ -159,11 +159,11 @@ module _ (t : List ℕ) (two : 1 < length t) where
       let e : ℕ = byte t 1 in
       pick_case (PieceFacts t) (eqb e 0x78) (λ x. fine_hex (eqb-true e 0x78 x))
       (λ _. pick_case (PieceFacts t) (eqb e 0x75)
-      (λ x. let q = eqb-true e 0x75 x in fine_code 4 R.BadU 0x75 (lit≤ tt) (lit≤ tt) (sym q) (omega arith))
+      (λ x. let q = eqb-true e 0x75 x in fine_code 4 (bad_escape R.BadU 0x75) (lit≤ tt) (lit≤ tt) (sym q) (omega arith))
       (λ _. pick_case (PieceFacts t) (eqb e 0x55)
-      (λ x. let q = eqb-true e 0x55 x in fine_code 8 R.BadCapitalU 0x55 (lit≤ tt) (lit≤ tt) (sym q) (omega arith))
+      (λ x. let q = eqb-true e 0x55 x in fine_code 8 (bad_escape R.BadCapitalU 0x55) (lit≤ tt) (lit≤ tt) (sym q) (omega arith))
       (λ _. pick_case (PieceFacts t) (within 48 51 e) (λ x. let q = within_high 48 51 e x in fine_oct (omega arith))
-      (λ _. bad_2 R.UnknownEscape e (lit≤ tt) refl (λ n. true_false true refl n)))))
+      (λ _. bad_2 (bad_escape R.UnknownEscape e) (lit≤ tt) refl (λ n. true_false true refl n)))))
 
   fine_escape : PieceFacts t (escape_piece t)
   unfolding escape_piece

@@ -18,7 +18,7 @@ use Rattle.strings.specs.declared.literal.Step.{Step}
 use Rattle.strings.specs.declared.literal.Step.TheVariants.{Go, Stop}
 
 -- Types of the code (src/literal.rt). `End`, how a literal ends: `Closed`; `AtNewline`; `Cut`, after a backslash at the end of the text; `Open`, at
--- the end of the text; `Bad reason letter`, at a bad escape. `Step`, what a mode makes of a piece: `Go encoded used reason`, the bytes of `encoded` are
+-- the end of the text; `Bad escape`, at a bad escape. `Step`, what a mode makes of a piece: `Go encoded used reason`, the bytes of `encoded` are
 -- decoded from `used` bytes of text, and its reason is reported, where it has one; `Stop end stop`, the literal ends at the offset `stop`.
 -- Types that other files explain: `Encoded` in utf8/specs/Character.antt; `Mode` in lexeme/specs/Lexeme.antt; `Piece` in Piece.antt;
 -- `Reason` in token/specs/Reason.antt.
@@ -34,8 +34,8 @@ pub record Decoded : Type 0 where
 -- reported at its letter and kept as backslash and letter"; "A backslash at the end is dropped"
 unfoldable pub step_of : Mode → ℕ → Piece → Step
 step_of m at (piece.Bytes e used) = Go e used None
-step_of Strict at (piece.Bad reason letter used) = Stop (end.Bad reason letter) (at + used)
-step_of Tolerant at (piece.Bad reason letter used) = Go (encoded (code "\\" ∷ letter ∷ [])) used (Some reason)
+step_of Strict at (piece.Bad escape used) = Stop (end.Bad escape) (at + used)
+step_of Tolerant at (piece.Bad escape used) = Go (encoded (code "\\" ∷ escape.letter ∷ [])) used (Some escape.reason)
 step_of m at piece.Close = Stop end.Closed (at + 1)
 step_of Strict at piece.Newline = Stop end.AtNewline (at + 1)
 step_of Tolerant at piece.Newline = Stop end.AtNewline at

@@ -33,7 +33,7 @@ end_reason end.Closed = None
 end_reason end.AtNewline = Some R.NewlineInString
 end_reason end.Cut = Some R.OpenEscape
 end_reason end.Open = Some R.OpenString
-end_reason (end.Bad reason letter) = Some reason
+end_reason (end.Bad escape) = Some escape.reason
 
 -- `string_token`: "string not UTF-8", or no reason
 abbrev pub bytes_reason : Decoded → Option Reason
@@ -50,7 +50,7 @@ end_detail end.Closed = 0
 end_detail end.AtNewline = 0
 end_detail end.Cut = 0
 end_detail end.Open = 0
-end_detail (end.Bad reason letter) = letter_detail reason letter
+end_detail (end.Bad escape) = letter_detail escape.reason escape.letter
 
 -- where an ending leaves the token's end: "If the Rust stops inside a character ..; ours ends after that character", which only an unknown escape can
 unfoldable pub literal_end : List ℕ → End → ℕ → ℕ
@@ -58,7 +58,7 @@ literal_end s end.Closed stop = stop
 literal_end s end.AtNewline stop = stop
 literal_end s end.Cut stop = stop
 literal_end s end.Open stop = stop
-literal_end s (end.Bad reason letter) stop = pick (is_unknown_escape reason) (char_end s stop) stop
+literal_end s (end.Bad escape) stop = pick (is_unknown_escape escape.reason) (char_end s stop) stop
 
 -- the tolerant report of an ending, at the token's start: "string ended at newline", "open escape", "open string"
 unfoldable pub end_notes : End → List Note
@@ -66,7 +66,7 @@ end_notes end.Closed = []
 end_notes end.AtNewline = note_at_start R.StringEndedAtNewline ∷ []
 end_notes end.Cut = note_at_start R.OpenEscape ∷ []
 end_notes end.Open = note_at_start R.OpenString ∷ []
-end_notes (end.Bad reason letter) = []
+end_notes (end.Bad escape) = []
 
 -- the reports of a literal, in order; a strict one has none
 unfoldable pub literal_notes : Mode → Decoded → List Note

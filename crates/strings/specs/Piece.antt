@@ -7,11 +7,12 @@ use Rattle.base.specs.Bytes.{byte, within}
 use Rattle.utf8.specs.Character.{encoded, is_scalar, encode_of}
 use Rattle.token.specs.declared.reason.Reason.{Reason}
 use Rattle.token.specs.declared.reason.Reason.TheVariants as R
+use Rattle.strings.specs.declared.piece.BadEscape.{BadEscape}
 use Rattle.strings.specs.declared.piece.Piece.{Piece}
 use Rattle.strings.specs.declared.piece.Piece.TheVariants as piece
 
 -- Types of the code (src/piece.rt). `Piece`, what stands at the front of the rest of a literal: `Bytes encoded used`, `used` bytes of text that stand
--- for those of `encoded`; `Bad reason letter used`, a bad escape of `used` bytes of text; `Close`, the closing quote; `Newline`, one that is not
+-- for those of `encoded`; `Bad escape used`, a bad escape of `used` bytes of text; `Close`, the closing quote; `Newline`, one that is not
 -- escaped; `Cut`, a backslash with nothing after it; `Open`, nothing.
 -- Types that other files explain: `Encoded` in utf8/specs/Character.antt; `Reason` in token/specs/Reason.antt.
 
@@ -47,10 +48,14 @@ simple_of e = look letters e
 abbrev pub bytes_piece : List ℕ → ℕ → Piece
 bytes_piece l used = piece.Bytes (encoded l) used
 
+-- why an escape is bad, and its letter
+abbrev pub bad_escape : Reason → ℕ → BadEscape
+bad_escape reason letter = record { reason = reason; letter = letter }
+
 -- an escape of four bytes of text: the byte that it spells, or a bad escape
-abbrev pub byte_piece : Reason → ℕ → Option ℕ → Piece
-byte_piece reason letter None = piece.Bad reason letter 2
-byte_piece reason letter (Some b) = bytes_piece (b ∷ []) 4
+abbrev pub byte_piece : BadEscape → Option ℕ → Piece
+byte_piece escape None = piece.Bad escape 2
+byte_piece escape (Some b) = bytes_piece (b ∷ []) 4
 
 -- two hexadecimal digits, by `read_hex_byte`, the list standing at the backslash. Past the end `byte` gives 0, which is no digit
 unfoldable pub hex_byte : List ℕ → Option ℕ
@@ -58,7 +63,7 @@ hex_byte l = option_and_then (λ h. option_map (λ d. h * 16 + d) (hex_of (byte 
 
 -- `\x` and two digits
 unfoldable pub hex_piece : List ℕ → Piece
-hex_piece l = byte_piece R.BadX (code "x") (hex_byte l)
+hex_piece l = byte_piece (bad_escape R.BadX (code "x")) (hex_byte l)
 
 -- a digit from 0 to 3 and two octal digits, by `read_oct_rest`
 unfoldable pub oct_byte : ℕ → List ℕ → Option ℕ
@@ -66,7 +71,7 @@ oct_byte first l = option_and_then (λ h. option_map (λ d. (first - code "0") *
 
 -- the same with its backslash
 unfoldable pub oct_piece : ℕ → List ℕ → Piece
-oct_piece first l = byte_piece R.BadOctal first (oct_byte first l)
+oct_piece first l = byte_piece (bad_escape R.BadOctal first) (oct_byte first l)
 
 -- how many of the first n bytes are digits before the first that is none
 unfoldable pub hex_count : ℕ → List ℕ → ℕ
@@ -82,20 +87,20 @@ hex_value (suc n) r (x ∷ l) = hex_value n (r * 16 + unwrap_or (hex_of x) 0) l
 
 -- `\u` or `\U` with n digits, by `read_hex_rune`, l being the text after the letter. Document 01: "good digits already consumed are lost, unless too
 -- few bytes remain: then none is consumed"
-unfoldable pub code_piece : ℕ → Reason → ℕ → List ℕ → Piece
-code_piece n reason letter l =
-    pick (ltb (length l) n) (piece.Bad reason letter 2)
-    (pick (ltb (hex_count n l) n) (piece.Bad reason letter (hex_count n l + 2))
-    (pick (is_scalar (hex_value n 0 l)) (bytes_piece (encode_of (hex_value n 0 l)) (n + 2)) (piece.Bad reason letter (n + 2))))
+unfoldable pub code_piece : ℕ → BadEscape → List ℕ → Piece
+code_piece n escape l =
+    pick (ltb (length l) n) (piece.Bad escape 2)
+    (pick (ltb (hex_count n l) n) (piece.Bad escape (hex_count n l + 2))
+    (pick (is_scalar (hex_value n 0 l)) (bytes_piece (encode_of (hex_value n 0 l)) (n + 2)) (piece.Bad escape (n + 2))))
 
 -- an escape whose letter stands for a byte, or for none
 abbrev pub letter_piece : Option ℕ → List ℕ → Piece
 letter_piece (Some b) l = bytes_piece (b ∷ []) 2
 letter_piece None l =
     pick (eqb (byte l 1) (code "x")) (hex_piece l)
-    (pick (eqb (byte l 1) (code "u")) (code_piece 4 R.BadU (code "u") (drop 2 l))
-    (pick (eqb (byte l 1) (code "U")) (code_piece 8 R.BadCapitalU (code "U") (drop 2 l))
-    (pick (within (code "0") (code "3") (byte l 1)) (oct_piece (byte l 1) l) (piece.Bad R.UnknownEscape (byte l 1) 2))))
+    (pick (eqb (byte l 1) (code "u")) (code_piece 4 (bad_escape R.BadU (code "u")) (drop 2 l))
+    (pick (eqb (byte l 1) (code "U")) (code_piece 8 (bad_escape R.BadCapitalU (code "U")) (drop 2 l))
+    (pick (within (code "0") (code "3") (byte l 1)) (oct_piece (byte l 1) l) (piece.Bad (bad_escape R.UnknownEscape (byte l 1)) 2))))
 
 -- a backslash and one byte more; any other letter is an "unknown escape"
 unfoldable pub escape_piece : List ℕ → Piece

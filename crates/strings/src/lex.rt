@@ -7,7 +7,6 @@ ghost use Rattle.token.specs.declared.reason.Reason.TheVariants as R;
 ghost use Rattle.lexeme.specs.Lexeme.{extent, illegal_reported};
 ghost use Rattle.std.proofs.lemmas.List.Edits.{sets};
 ghost use Rattle.utf8.specs.Grammar.{Octets};
-ghost use Rattle.strings.specs.Decode.{letter_detail};
 ghost use Rattle.strings.specs.Literal.{literal_of, end_reason, end_detail, literal_end, lex_string};
 ghost use Rattle.strings.specs.Helpers.{Sized};
 
@@ -29,19 +28,7 @@ fn end_reason(end: End) -> Option<Reason>
         End::AtNewline => Some(Reason::NewlineInString),
         End::Cut => Some(Reason::OpenEscape),
         End::Open => Some(Reason::OpenString),
-        End::Bad { reason, .. } => Some(reason),
-    }
-}
-
-// The detail of a bad escape: the letter, where the escape is unknown.
-#[tactic(auto, unfolding(crate::specs::Decode::letter_detail))]
-pub fn letter_detail(reason: Reason, letter: u8) -> usize
-    ensures { (result ≡ letter_detail reason letter) × (result ≤ 255) }
-{
-    if reason.is_unknown_escape() {
-        usize::from(letter)
-    } else {
-        0
+        End::Bad(escape) => Some(escape.reason),
     }
 }
 
@@ -52,17 +39,17 @@ fn end_detail(end: End) -> usize
 {
     match end {
         End::Closed | End::AtNewline | End::Cut | End::Open => 0,
-        End::Bad { reason, letter } => letter_detail(reason, letter),
+        End::Bad(escape) => escape.detail(),
     }
 }
 
 // Where an ending leaves the token's end: an unknown escape's after the character that its letter begins.
 #[tactic(auto, unfolding(crate::specs::Literal::literal_end))]
-fn end_of(s: &[u8], end: End, stop: usize) -> usize
+fn literal_end(s: &[u8], end: End, stop: usize) -> usize
     ensures { result ≡ literal_end s.now end stop }
 {
     match end {
-        End::Bad { reason, .. } if reason.is_unknown_escape() => char_end(s, stop),
+        End::Bad(escape) if escape.reason.is_unknown_escape() => char_end(s, stop),
         _ => stop,
     }
 }
@@ -86,7 +73,7 @@ fn token_for(s: &[u8], m: Measure, reason: Option<Reason>, reports: usize) -> Le
         Some(reason) => Lexeme::illegal_reported(
             reason,
             end_detail(m.end),
-            end_of(s, m.end, m.stop),
+            literal_end(s, m.end, m.stop),
             reports,
         ),
     }

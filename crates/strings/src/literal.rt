@@ -14,7 +14,7 @@ ghost use Rattle.strings.specs.Helpers.{measured};
 ghost use Rattle.strings.specs.Literal.{literal_of};
 
 use crate::digit::simple;
-use crate::piece::{Piece, next_piece};
+use crate::piece::{BadEscape, Piece, next_piece};
 use base::runs::{Run, past_windows, reach_bytes};
 use lexeme::Mode;
 use token::reason::Reason;
@@ -29,7 +29,7 @@ pub enum End {
     AtNewline,
     Cut,
     Open,
-    Bad { reason: Reason, letter: u8 },
+    Bad(BadEscape),
 }
 
 // One step, with what the mode makes of it.
@@ -85,18 +85,14 @@ pub fn step_at(s: &[u8], i: usize, mode: Mode) -> Step
             used,
             reason: None,
         },
-        Piece::Bad {
-            reason,
-            letter,
-            used,
-        } => match mode {
-            Mode::Strict => stop_at(End::Bad { reason, letter }, i + used),
+        Piece::Bad { escape, used } => match mode {
+            Mode::Strict => stop_at(End::Bad(escape), i + used),
             Mode::Tolerant => {
-                let bytes = [b'\\', letter, 0, 0];
+                let bytes = [b'\\', escape.letter, 0, 0];
                 Step::Go {
                     encoded: Encoded { bytes, len: 2 },
                     used,
-                    reason: Some(reason),
+                    reason: Some(escape.reason),
                 }
             }
         },
@@ -191,8 +187,8 @@ pub fn put_simple(t: &[u8], out: &mut [u8]) -> usize
 #[derive(Clone, Copy)]
 pub struct Literal<'a> {
     pub text: &'a [u8],
-    ghost some: { 0 < length text.now },
-    ghost formed: { valid_to text.now ≡ length text.now },
+    ghost not_empty: { 0 < length text.now },
+    ghost well_formed: { valid_to text.now ≡ length text.now },
 }
 
 impl<'a> Literal<'a> {

@@ -11,8 +11,8 @@ ghost use Rattle.strings.specs.Decode.{letter_detail};
 ghost use Rattle.strings.specs.Literal.{end_notes};
 ghost use Rattle.strings.specs.Helpers.{string_numbers, NotesFit};
 
-use crate::lex::letter_detail;
 use crate::literal::{End, Step, ordinary_end, step_at};
+use crate::piece::BadEscape;
 use lexeme::{Mode, put_report};
 use token::layout::REPORT_WIDTH;
 use token::place::{Place, walk};
@@ -24,7 +24,7 @@ pub(crate) fn end_report(end: End) -> Option<Reason>
     ensures { MatchOption result (end_notes end ≡ []) (λ reason. end_notes end ≡ note_at_start reason ∷ []) }
 {
     match end {
-        End::Closed | End::Bad { .. } => None,
+        End::Closed | End::Bad(_) => None,
         End::AtNewline => Some(Reason::StringEndedAtNewline),
         End::Cut => Some(Reason::OpenEscape),
         End::Open => Some(Reason::OpenString),
@@ -56,8 +56,11 @@ fn put_tolerant_notes(text: &[u8], start: Place, out: &mut [i64], at: usize)
                     continue;
                 };
                 place = walk(text, place, first + e + 1);
-                let detail = letter_detail(reason, encoded.bytes[1]);
-                put_report(place, reason, detail, out, p);
+                let escape = BadEscape {
+                    reason,
+                    letter: encoded.bytes[1],
+                };
+                put_report(place, reason, escape.detail(), out, p);
                 p += REPORT_WIDTH;
             }
             Step::Stop { end, stop: _ } => {

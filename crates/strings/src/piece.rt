@@ -1,26 +1,47 @@
 // One step of a string literal.
 ghost use Rattle.std.specs.Prelude.{◌≡◌, [], ◌∷◌, ◌+◌, ◌-◌, ◌*◌, ◌≤◌, ◌<◌, length, drop};
 ghost use Rattle.utf8.specs.Character.{is_scalar};
-ghost use Rattle.strings.specs.Piece.{bytes_piece, byte_piece, hex_byte, hex_piece, oct_byte, oct_piece, code_piece, escape_piece, piece_of};
+ghost use Rattle.strings.specs.Decode.{letter_detail};
+ghost use Rattle.strings.specs.Piece.{bad_escape, bytes_piece, byte_piece, hex_byte, hex_piece, oct_byte, oct_piece, code_piece, escape_piece, piece_of};
 
 use crate::digit::{hex_val, oct_val, simple};
 use token::reason::Reason;
 use utf8::character::{Encoded, encode};
 
+// Why an escape is bad, and its letter.
+#[derive(Clone, Copy)]
+pub struct BadEscape {
+    pub reason: Reason,
+    pub letter: u8,
+}
+
+impl BadEscape {
+    fn of(reason: Reason, letter: u8) -> BadEscape
+        ensures { result ≡ bad_escape reason letter }
+    {
+        BadEscape { reason, letter }
+    }
+
+    // The detail of its report: the letter, where the escape is unknown.
+    #[tactic(auto, unfolding(crate::specs::Decode::letter_detail))]
+    pub fn detail(self) -> usize
+        ensures { (result ≡ letter_detail self.reason self.letter) × (result ≤ 255) }
+    {
+        if self.reason.is_unknown_escape() {
+            usize::from(self.letter)
+        } else {
+            0
+        }
+    }
+}
+
 // What stands at the front of the rest of a literal, after the opening quote.
 #[derive(Clone, Copy)]
 pub enum Piece {
     // `used` bytes of text that stand for those of `encoded`.
-    Bytes {
-        encoded: Encoded,
-        used: usize,
-    },
-    // A bad escape: the reason, its letter, and how many bytes of text it takes.
-    Bad {
-        reason: Reason,
-        letter: u8,
-        used: usize,
-    },
+    Bytes { encoded: Encoded, used: usize },
+    // A bad escape, and how many bytes of text it takes.
+    Bad { escape: BadEscape, used: usize },
     // The closing quote.
     Close,
     // A newline that is not escaped.
@@ -43,14 +64,10 @@ fn one(b: u8, used: usize) -> Piece
 }
 
 // A bad escape.
-fn bad(reason: Reason, letter: u8, used: usize) -> Piece
-    ensures { result ≡ Piece.Bad reason letter used }
+fn bad(escape: BadEscape, used: usize) -> Piece
+    ensures { result ≡ Piece.Bad escape used }
 {
-    Piece::Bad {
-        reason,
-        letter,
-        used,
-    }
+    Piece::Bad { escape, used }
 }
 
 // Whether a number is a code point that UTF-8 encodes.
@@ -62,12 +79,12 @@ fn valid_rune(r: u32) -> bool
 }
 
 // The byte of an escape of four bytes of text, or a bad escape.
-fn byte_escape(reason: Reason, letter: u8, byte: Option<u8>) -> Piece
-    ensures { result ≡ byte_piece reason letter byte }
+fn byte_escape(escape: BadEscape, byte: Option<u8>) -> Piece
+    ensures { result ≡ byte_piece escape byte }
 {
     match byte {
         Some(b) => one(b, 4),
-        None => bad(reason, letter, 2),
+        None => bad(escape, 2),
     }
 }
 
@@ -95,17 +112,17 @@ fn oct_byte(t: &[u8], first: u8) -> Option<u8>
 // `\u` or `\U` and n digits, of which l is the text. Good digits before a bad one are used up, but none where too few bytes are left. Not inlined,
 // strings of such escapes take a fifth more instructions.
 #[inline]
-fn code_escape(l: &[u8], n: usize, reason: Reason, letter: u8) -> Piece
+fn code_escape(l: &[u8], n: usize, escape: BadEscape) -> Piece
     requires { n ≤ 8 }
-    ensures { result ≡ code_piece n reason letter l.now }
+    ensures { result ≡ code_piece n escape l.now }
 {
     if l.len() < n {
-        return bad(reason, letter, 2);
+        return bad(escape, 2);
     }
     let mut r: u32 = 0;
     for (k, c) in l[..n].iter().enumerate() {
         let Some(d) = hex_val(*c) else {
-            return bad(reason, letter, k + 2);
+            return bad(escape, k + 2);
         };
         r = r * 16 + u32::from(d);
     }
@@ -115,7 +132,7 @@ fn code_escape(l: &[u8], n: usize, reason: Reason, letter: u8) -> Piece
             used: n + 2,
         };
     }
-    bad(reason, letter, n + 2)
+    bad(escape, n + 2)
 }
 
 // An escape: t begins with a backslash and one byte more.
@@ -129,11 +146,11 @@ fn escape(t: &[u8]) -> Piece
         return one(b, 2);
     }
     match e {
-        b'x' => byte_escape(Reason::BadX, e, hex_byte(t)),
-        b'u' => code_escape(&t[2..], 4, Reason::BadU, e),
-        b'U' => code_escape(&t[2..], 8, Reason::BadCapitalU, e),
-        b'0'..=b'3' => byte_escape(Reason::BadOctal, e, oct_byte(t, e)),
-        _ => bad(Reason::UnknownEscape, e, 2),
+        b'x' => byte_escape(BadEscape::of(Reason::BadX, e), hex_byte(t)),
+        b'u' => code_escape(&t[2..], 4, BadEscape::of(Reason::BadU, e)),
+        b'U' => code_escape(&t[2..], 8, BadEscape::of(Reason::BadCapitalU, e)),
+        b'0'..=b'3' => byte_escape(BadEscape::of(Reason::BadOctal, e), oct_byte(t, e)),
+        _ => bad(BadEscape::of(Reason::UnknownEscape, e), 2),
     }
 }
 

@@ -4,7 +4,7 @@ use Rattle.strings.proofs.Judges.{judged_strict, judged_tolerant, notes_fit}
 use Rattle.strings.proofs.lex.lex_string.Goals as goal
 
 pub invariant_of-measure : goal.invariant_of-measure
-invariant_of-measure c = record { some = c.requires.0; formed = octets_valid c.requires.1 }
+invariant_of-measure c = record { not_empty = c.requires.0; well_formed = octets_valid c.requires.1 }
 
 pub overflow_add-m : goal.overflow_add-m
 overflow_add-m c = search notes_fit

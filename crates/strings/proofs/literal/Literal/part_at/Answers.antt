@@ -6,7 +6,7 @@ pub returns-then-is_between-is_inside-clause-spelled : goal.returns-then-is_betw
 returns-then-is_between-is_inside-clause-spelled c = search spells_none
 
 pub loop-s-init : goal.loop-s-init
-loop-s-init c = parting_first _ _ c.requires c.args.self.now.formed _ _ c.is_inside.ensures c.if-is_between-is_inside.false
+loop-s-init c = parting_first _ _ c.requires c.args.self.now.well_formed _ _ c.is_inside.ensures c.if-is_between-is_inside.false
 
 pub returns-then-n-eq0-clause-spelled : goal.returns-then-n-eq0-clause-spelled
 returns-then-n-eq0-clause-spelled c = search spells_more

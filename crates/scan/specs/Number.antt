@@ -28,13 +28,21 @@ lex_precision k s e =
 unfoldable pub past_point : List ℕ → ℕ → ℕ
 past_point s i = pick (eqb (byte s i) (code ".")) (reach in_digits s (i + 1)) i
 
+-- a sign
+abbrev pub is_sign : ℕ → Bool
+is_sign a = eqb a (code "+") || eqb a (code "-")
+
+-- the letter before an exponent
+abbrev pub is_exponent : ℕ → Bool
+is_exponent a = eqb a (code "e") || eqb a (code "E")
+
 -- past a sign or nothing
 unfoldable pub past_sign : List ℕ → ℕ → ℕ
-past_sign s i = pick (eqb (byte s i) (code "+") || eqb (byte s i) (code "-")) (i + 1) i
+past_sign s i = pick (is_sign (byte s i)) (i + 1) i
 
 -- past `e` or `E`, a sign or none, and digits or none
 unfoldable pub past_exponent : List ℕ → ℕ → ℕ
-past_exponent s i = pick (eqb (byte s i) (code "e") || eqb (byte s i) (code "E")) (reach in_digits s (past_sign s (i + 1))) i
+past_exponent s i = pick (is_exponent (byte s i)) (reach in_digits s (past_sign s (i + 1))) i
 
 -- past a point and at least one digit, or nothing
 unfoldable pub past_fraction : List ℕ → ℕ → ℕ
@@ -89,10 +97,6 @@ lex_digits s i =
 -- `inf` after a sign, where no name byte follows
 unfoldable pub at_inf : List ℕ → Bool
 at_inf s = ((eqb (byte s 1) (code "i") && eqb (byte s 2) (code "n")) && eqb (byte s 3) (code "f")) && not (is_ident_part (byte s 4))
-
--- a sign
-abbrev pub is_sign : ℕ → Bool
-is_sign a = eqb a (code "+") || eqb a (code "-")
 
 -- `lex_number`: "16 `+` without `inf`; 17 `-` without digit or `inf`"
 unfoldable pub lex_number : List ℕ → Lexeme

@@ -21,36 +21,33 @@ pub enum Stop {
     Open(usize),
 }
 
-// Where the bytes literal that begins with `b"` stops. Not of the slice after `b"`, for which `lex_bytes` would have to ask for two bytes.
-#[tactic(auto, using(std::proofs::lemmas::Bool::Decides::nat_tests, crate::proofs::Stops::stop_at_lem, crate::proofs::Stops::stop_last))]
+// Where the bytes literal that begins with `b"` stops.
+#[tactic(auto, using(std::proofs::lemmas::Bool::Decides::nat_tests, crate::proofs::Stops::stop_turn, crate::proofs::Stops::stop_end))]
 fn bytes_stop(s: &[u8], limit: usize) -> Stop
     ensures { result ≡ bytes_stop limit 0 (drop 2 s.now) }
 {
-    for i in 2..s.len() {
-        let n = i - 2;
-        let b = s[i];
+    let body = s.get(2..).unwrap_or(&[]);
+    for (n, b) in body.iter().enumerate() {
         let over = limit < n / 4 * 3;
         if over {
             return Stop::Over(n);
         }
-        if b == b'"' {
+        if *b == b'"' {
             return Stop::Closed(n);
         }
-        if b == b'\n' {
+        if *b == b'\n' {
             return Stop::Newline(n);
         }
     }
-    Stop::Open(s.len().saturating_sub(2))
+    Stop::Open(body.len())
 }
 
 // A literal of `len` bytes with `n` bytes between its quotes.
 fn bytes_value(len: usize, n: usize, reports: usize) -> Lexeme
     ensures { result ≡ bytes_value len n reports }
 {
-    if n == 0 {
-        return Lexeme::extent(TokenKind::Bytes, len, len, n, reports);
-    }
-    Lexeme::extent(TokenKind::Bytes, len, 2, n, reports)
+    let value = if n == 0 { len } else { 2 };
+    Lexeme::extent(TokenKind::Bytes, len, value, n, reports)
 }
 
 // A literal without its closing quote, of `n` bytes after its opening quote.

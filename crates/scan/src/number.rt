@@ -3,7 +3,7 @@ ghost use Rattle.std.specs.Prelude.{◌≡◌, ◌+◌, length};
 ghost use Rattle.base.specs.Bytes.{byte};
 ghost use Rattle.go_duration.specs.Parse.{parse_of};
 ghost use Rattle.rfc3339.specs.Instant.{date_of};
-ghost use Rattle.scan.specs.Number.{lex_precision, past_point, past_sign, past_exponent, past_fraction, at_duration_unit, duration_by};
+ghost use Rattle.scan.specs.Number.{lex_precision, past_point, is_sign, is_exponent, past_sign, past_exponent, past_fraction, at_duration_unit, duration_by};
 ghost use Rattle.scan.specs.Number.{goes_on_float, number_kind, value_end, lex_tail, timestamp_by, lex_digits, at_inf, lex_number};
 
 use crate::run::{Stamp, past_units};
@@ -42,13 +42,26 @@ fn past_point(s: &[u8], i: usize) -> usize
     }
 }
 
+// A sign.
+fn is_sign(a: u8) -> bool
+    ensures { result ≡ is_sign a }
+{
+    (a == b'+') | (a == b'-')
+}
+
+// The letter before an exponent.
+fn is_exponent(a: u8) -> bool
+    ensures { result ≡ is_exponent a }
+{
+    (a == b'e') | (a == b'E')
+}
+
 // Past a sign or nothing.
 #[tactic(auto, unfolding(crate::specs::Number::past_sign))]
 fn past_sign(s: &[u8], i: usize) -> usize
     ensures { result ≡ past_sign s.now i }
 {
-    let b = peek(s, i);
-    if (b == b'+') | (b == b'-') { i + 1 } else { i }
+    if is_sign(peek(s, i)) { i + 1 } else { i }
 }
 
 // Past an exponent or nothing.
@@ -56,8 +69,7 @@ fn past_sign(s: &[u8], i: usize) -> usize
 fn past_exponent(s: &[u8], i: usize) -> usize
     ensures { result ≡ past_exponent s.now i }
 {
-    let b = peek(s, i);
-    if (b == b'e') | (b == b'E') {
+    if is_exponent(peek(s, i)) {
         digits_end(s, past_sign(s, i + 1))
     } else {
         i
@@ -99,7 +111,7 @@ fn duration_of(run: &[u8]) -> Lexeme
 fn goes_on_float(a: u8) -> bool
     ensures { result ≡ goes_on_float a }
 {
-    (a == b'.') | (a == b'e') | (a == b'E')
+    (a == b'.') | is_exponent(a)
 }
 
 // The kind of a number.
@@ -173,7 +185,7 @@ pub fn lex_number(s: &[u8]) -> Lexeme
     ensures { result ≡ lex_number s.now }
 {
     let a = peek(s, 0);
-    let sign = (a == b'+') | (a == b'-');
+    let sign = is_sign(a);
     if sign {
         if at_inf(s) {
             return Lexeme::whole(TokenKind::Float, 4);

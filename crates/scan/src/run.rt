@@ -105,9 +105,9 @@ fn ends_timestamp(a: u8, b: u8) -> bool
 
 // The digits and lower-case letters of a duration.
 #[derive(Clone, Copy)]
-struct Letters;
+struct LettersAndDigits;
 
-impl Run for Letters {
+impl Run for LettersAndDigits {
     ghost has = { λ _. in_letters };
 
     // Most bytes of a duration are such, and two branches are quicker for them than both tests joined by `|`.
@@ -128,7 +128,7 @@ pub fn past_units(s: &[u8], at: usize) -> usize
 {
     let mut i = at;
     loop {
-        i = reach_bytes(Letters, s, i);
+        i = reach_bytes(LettersAndDigits, s, i);
         let a = peek(s, i);
         if a == b'.' && is_digit(peek(s, i + 1)) {
             i += 1;

@@ -1,24 +1,33 @@
 -- For the functions of decode.rt: characters in groups of four. The values of the next four, the bytes of at most four values, and a buffer to which the
 -- bytes of a run go group by group. By the laws of stores and the cases of a group. Assumes nothing.
+use Rattle.std.specs.Simd.{first_chunks}
 use mathlib.Core.Path.{◌≡◌, refl, sym, ap, ◌∙◌}
 use mathlib.Core.Bool.{true, ◌&&◌}
 use mathlib.Core.List.{List, [], ◌∷◌, ◌++◌, append-nil}
-use Prim.Native.Nat.{ℕ, suc, ◌+◌, ◌*◌, ◌≤◌, ◌<◌}
+use Prim.Native.Nat.{ℕ, suc, ◌+◌, ◌-◌, ◌*◌, ◌≤◌, ◌<◌}
 use native.Mathlib.Numerals.{add-one}
 use native.Mathlib.Omega.{arith}
 use borrow.Author.Tests.{ltb-true, ltb-false, eqb-true, eqb-false}
 use lib.Dec.{ltb, eqb}
 use Rattle.std.proofs.lemmas.List.{get_or-take, get_or_past}
 use lib.ListN.{length, get_or, take, drop, set, length-set, drop_of_length-le}
-use lib.Seq.{sets, length-sets, drop-cons, length-take-le, take-suc-set, append_snoc, get_or-set_same, get_or-set_other}
+use lib.Seq.{sets, drop-drop, length-sets, drop-cons, length-take-le, take-suc-set, append_snoc, get_or-set_same, get_or-set_other}
 use Rattle.base.specs.Bytes.{byte}
 use Rattle.base.proofs.Tests.{by_cases, and_left, and_right}
+use Rattle.base.proofs.Chunks.{chunk_at}
+use Rattle.base.proofs.Reaches.{rest_is}
 use Rattle.base.proofs.Storings.{Storing, storing_room, storing_more}
 use Rattle.base64_lenient.specs.Rfc4648.{pad}
 use Rattle.base64_lenient.specs.Lenient.{six_bits, regroup}
 use Rattle.base64_lenient.specs.Helpers.{values_of, bytes_from, Gathered, NextGroup, WholeGroups}
 use Rattle.base64_lenient.specs.declared.decode.Group.{Group}
 use Rattle.base64_lenient.proofs.Values.{has_value_lem, no_value, pad_ends}
+
+-- ---- chunks of the rest of a list
+
+-- the n-th of m elements each, from i on
+pub rest_chunk : (m k i n : ℕ) (s : List ℕ) → n < k → get_or (first_chunks m k (take (length s - i) (drop i s))) n [] ≡ take m (drop (i + n * m) s)
+rest_chunk m k i n s h = rw (rest_is, ← drop-drop (n * m) i s) (chunk_at m k n (drop i s) h)
 
 -- ---- four of a list
 

@@ -1,13 +1,12 @@
 -- `whole_groups` stores the bytes of a group in each turn, and what is left, stored from there on, makes the whole. Assumes nothing.
-use mathlib.Core.Path.{◌≡◌, ap}
+use mathlib.Core.Path.{◌≡◌, ap, ◌∙◌}
 use mathlib.Core.List.{[], ◌∷◌}
-use Prim.Native.Nat.{◌+◌, ◌-◌, ◌*◌, ◌≤◌}
+use Prim.Native.Nat.{◌+◌, ◌*◌, ◌≤◌}
 use native.Mathlib.Omega.{arith}
-use lib.ListN.{length, length-drop, get_or, take, drop}
-use lib.Seq.{drop-drop, take_all}
+use lib.ListN.{length, length-drop, get_or}
 use Rattle.base.specs.Bytes.{byte}
-use Rattle.base.proofs.Chunks.{chunk_at}
-use Rattle.base64_lenient.proofs.Groups.{Together, chunk_is, all_small, together_room, together_stored}
+use Rattle.base.proofs.Reaches.{rest_is}
+use Rattle.base64_lenient.proofs.Groups.{Together, rest_chunk, chunk_is, all_small, together_room, together_stored}
 use Rattle.base64_lenient.proofs.decode.whole_groups.Goals.{Else-not-a-b}
 use Rattle.base64_lenient.proofs.decode.whole_groups.Goals as goal
 
@@ -19,13 +18,9 @@ together c =
     let at = c.args.at in
     let n = c.loop-n.n in
     let i = at + n * 4 in
-    let part = take (length s - at) (drop at s) in
-    let all : part ≡ drop at s = take_all (length s - at) (drop at s) (omega (arith, length-drop at s)) in
-    let front : get_or c.as_chunks.result.0.now n [] ≡ take 4 (drop (n * 4) part) =
-    rw c.as_chunks.ensures.front (chunk_at 4 _ n part (omega (arith, c.loop-n-test.true, c.as_chunks.ensures.front_len))) in
-    let room : i + 4 ≤ length s = omega (arith, c.loop-n-test.true, c.as_chunks.ensures.front_len, ap length all, length-drop at s, c.requires.0) in
+    let room : i + 4 ≤ length s = omega (arith, c.loop-n-test.true, c.as_chunks.ensures.front_len, ap length (rest_is s at), length-drop at s, c.requires.0) in
     let group : get_or c.as_chunks.result.0.now n [] ≡ byte s i ∷ byte s (i + 1) ∷ byte s (i + 2) ∷ byte s (i + 3) ∷ [] =
-    rw (all, drop-drop (n * 4) at s, chunk_is s i room) at front in
+    rw c.as_chunks.ensures.front (rest_chunk 4 _ at n s (omega (arith, c.loop-n-test.true, c.as_chunks.ensures.front_len))) ∙ chunk_is s i room in
     record {
       inside = room;
       first = rw group at c.value_of-a.ensures;

@@ -4,9 +4,9 @@ use mathlib.Core.List.{[]}
 use Prim.Native.Nat.{◌+◌, ◌-◌, ◌*◌, ◌≤◌}
 use native.Mathlib.Omega.{arith}
 use lib.ListN.{length, length-drop, get_or, take, drop}
-use lib.Seq.{drop-drop, take_all}
-use Rattle.base.proofs.Chunks.{chunk_at}
+use Rattle.base.proofs.Reaches.{rest_is}
 use Rattle.base.proofs.Tests.{told}
+use Rattle.base64_lenient.proofs.Groups.{rest_chunk}
 use Rattle.base64_lenient.proofs.Sights.{seen_row}
 use Rattle.base64_lenient.proofs.judge.Seen.rows.Goals as goal
 
@@ -17,14 +17,11 @@ loop-n-preserved c =
     let s = c.args.run.now in
     let n = c.args.self.characters in
     let k = l.n * 32 in
-    let part = take (length s - at) (drop at s) in
-    let all : part ≡ drop at s = take_all (length s - at) (drop at s) (omega (arith, length-drop at s)) in
-    let front : get_or c.as_chunks.result.0.now l.n [] ≡ take 32 (drop k part) =
-    rw c.as_chunks.ensures.front (chunk_at 32 _ l.n part (omega (arith, c.loop-n-test.true, c.as_chunks.ensures.front_len))) in
     let room : at + k + 32 ≤ length s =
-    omega (arith, c.loop-n-test.true, c.as_chunks.ensures.front_len, ap length all, length-drop at s, c.requires.inside) in
+    omega (arith, c.loop-n-test.true, c.as_chunks.ensures.front_len, ap length (rest_is s at), length-drop at s, c.requires.inside) in
     let w : at + k + 32 - (at + k) ≡ 32 = omega arith in
-    let row : get_or c.as_chunks.result.0.now l.n [] ≡ take (at + k + 32 - (at + k)) (drop (at + k) s) = rw w (rw (all, drop-drop k at s) at front) in
+    let row : get_or c.as_chunks.result.0.now l.n [] ≡ take (at + k + 32 - (at + k)) (drop (at + k) s) =
+    rw (c.as_chunks.ensures.front, w) (rest_chunk 32 _ at l.n s (omega (arith, c.loop-n-test.true, c.as_chunks.ensures.front_len))) in
     let o : n + k + (at + k + 32 - (at + k)) ≡ n + (l.n + 1) * 32 = omega arith in
     let e : at + (l.n + 1) * 32 ≡ at + k + 32 = omega arith in
     rw (c.shared-next.ensures, e)

@@ -7,16 +7,19 @@ use Rattle.go_duration.specs.Digits.{acc_of}
 use Rattle.go_duration.specs.Parse.{in_unit, part_of}
 use Rattle.go_duration.specs.Stages.{fraction_at, fraction_stop, nanos_part}
 use Rattle.go_duration.proofs.FrontDigits.{over_told}
-use Rattle.go_duration.proofs.PartSteps.{fraction_rest, stop_rest, used_le, part_over, next_none, next_in, next_unit, next_known, next_nanos}
+use Rattle.go_duration.proofs.PartSteps.{fraction_rest, stop_rest, used_le}
+use Rattle.go_duration.proofs.PartSteps.{part_over, next_none, next_in, next_unit, next_known, next_nanos}
 use Rattle.go_duration.proofs.part.next_part.Goals.{After-fraction_at-count, Joined-else-used-eq0, After-unit_size-size, In_ok-unit}
 use Rattle.go_duration.proofs.part.next_part.Goals.{else-used-eq0-via-then-used-eq0+else-digits-eq0, else-used-eq0-via-else-used-eq0}
 use Rattle.go_duration.proofs.part.next_part.Goals as goal
 
 -- the fraction of the rest is that of the text
-digits_are : (c : After-fraction_at-count) → let d = c.fraction_at-count.result.0 in acc_of d.f d.kept d.count ≡ fraction_at c.in_ok-value.field-0.used c.args.s.now
+digits_are : (c : After-fraction_at-count)
+    → let d = c.fraction_at-count.result.0 in acc_of d.f d.kept d.count ≡ fraction_at c.in_ok-value.field-0.used c.args.s.now
 digits_are c = rw (rest_is, fraction_rest) at c.fraction_at-count.ensures.digits
 
-ends_are : (c : After-fraction_at-count) → c.in_ok-value.field-0.used + c.fraction_at-count.result.1 ≡ fraction_stop c.in_ok-value.field-0.used c.args.s.now
+ends_are : (c : After-fraction_at-count)
+    → c.in_ok-value.field-0.used + c.fraction_at-count.result.1 ≡ fraction_stop c.in_ok-value.field-0.used c.args.s.now
 ends_are c = rw (rw rest_is at c.fraction_at-count.ensures.ends) (stop_rest _ _)
 
 -- its end lies in the text
@@ -43,7 +46,8 @@ returns-in_err-value c = c.from_residual.ensures ∙ part_over _ (over_told _ c.
 
 pub returns-then-digits-eq0 : goal.returns-then-digits-eq0
 returns-then-digits-eq0 c =
-    let f = (goal.at.returns-then-digits-eq0 c).After-fraction_at-count in next_none _ _ c.in_ok-value.ensures _ (digits_are f) _ (ends_are f) c.if-used-eq0.true c.if-digits-eq0.true
+    let f = (goal.at.returns-then-digits-eq0 c).After-fraction_at-count in next_none _ _ c.in_ok-value.ensures _ (digits_are f) _ (ends_are f)
+    c.if-used-eq0.true c.if-digits-eq0.true
 
 pub slice_bounds-fraction_at-count : goal.slice_bounds-fraction_at-count
 slice_bounds-fraction_at-count c = used_le _ _ c.in_ok-value.ensures
@@ -81,7 +85,8 @@ nanos_part-requires c =
 -- the nanoseconds decide
 decided : (c : In_ok-unit) (r : Option ℕ)
     → (let d = c.fraction_at-count.result.0 in r ≡ nanos_part c.in_ok-value.field-0.value (acc_of d.f d.kept d.count) c.in_ok-unit.unit)
-    → option_map (λ x. record { nanos = x; used = c.in_ok-value.field-0.used + c.fraction_at-count.result.1 + c.unit_size-size.result }) r ≡ part_of c.args.s.now
+    → option_map (λ x. record { nanos = x; used = c.in_ok-value.field-0.used + c.fraction_at-count.result.1 + c.unit_size-size.result }) r
+    ≡ part_of c.args.s.now
 decided c r e =
     let at = goal.at.nanos_part-requires c in
     let f = at.After-fraction_at-count in
@@ -95,7 +100,12 @@ returns-in_err-nanos c =
 pub overflow_add-result : goal.overflow_add-result
 overflow_add-result c =
     let at = goal.at.overflow_add-result c in
-    omega (arith, size_le at.After-unit_size-size, end_in at.After-fraction_at-count, length-drop (c.in_ok-value.field-0.used + c.fraction_at-count.result.1) c.args.s.now)
+    omega (
+      arith,
+      size_le at.After-unit_size-size,
+      end_in at.After-fraction_at-count,
+      length-drop (c.in_ok-value.field-0.used + c.fraction_at-count.result.1) c.args.s.now,
+    )
 
 pub returns : goal.returns
 returns c = decided (goal.at.returns c).In_ok-unit (Some _) c.in_ok-nanos.ensures

@@ -62,7 +62,8 @@ put_rows x (y ∷ es) (suc p) f h s =
     (ap (λ (l : List ℤ). entry_numbers y ++ l) (put_rows x es p (λ z i. f z (Memᴰ.tail i)) (omega arith) t))
 
 -- x put where it is to go, as `add` does it
-pub placed : (x : Suggestion) (count p : ℕ) {l l₁ l₂ : List ℤ} → Place (take (count * entry_width) l) count x.nanos p → Moved l (p * entry_width) (count * entry_width) l₁
+pub placed : (x : Suggestion) (count p : ℕ) {l l₁ l₂ : List ℤ} → Place (take (count * entry_width) l) count x.nanos p
+    → Moved l (p * entry_width) (count * entry_width) l₁
     → l₂ ≡ sets l₁ (p * entry_width) (entry_numbers x) → Added x count l l₂
 placed x count p {l} {l₁} s m d es l₀ h n g e =
     let A : List ℤ = entry_rows es in

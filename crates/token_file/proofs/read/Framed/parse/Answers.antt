@@ -13,13 +13,15 @@ file_width-requires c = file_fits _ _ (omega arith)
 pub returns-then-not-mark-version : goal.returns-then-not-mark-version
 returns-then-not-mark-version c =
     let f = c.in_ok-o.ensures.cases in
-    framed_is _ _ f.enough f.same (c.from-version.ensures ∙ c.from_le_bytes.ensures) c.from_le_bytes-count.ensures c.file_width.ensures c.if-not-mark-version.true
+    framed_is _ _ f.enough f.same (c.from-version.ensures ∙ c.from_le_bytes.ensures) c.from_le_bytes-count.ensures c.file_width.ensures
+    c.if-not-mark-version.true
 
 pub returns : goal.returns
 returns c =
     let f = c.in_ok-o.ensures.cases in
     record {
-      right = framed_is _ _ f.enough f.same (c.from-version.ensures ∙ c.from_le_bytes.ensures) c.from_le_bytes-count.ensures c.file_width.ensures c.if-not-mark-version.false;
+      right = framed_is _ _ f.enough f.same (c.from-version.ensures ∙ c.from_le_bytes.ensures) c.from_le_bytes-count.ensures c.file_width.ensures
+          c.if-not-mark-version.false;
       same_file = refl;
       same_layout = refl;
       counted = count_read c.args.layout c.args.file.now f.enough f.same c.from_le_bytes-count.ensures;

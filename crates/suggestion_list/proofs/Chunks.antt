@@ -36,7 +36,8 @@ module _ (l : List ℤ) (z : ℤ) (chunks : List (List ℤ)) (are : chunks ≡ f
       let f = rw (nanos_are j d (omega (arith, size))) at (not-true _ e) in
       rw (nanos_are i d (omega (arith, size)), no_less_on z (nanos_at l j) (nanos_at l i) f (c i j h (omega (arith, size))))
 
-  pub parted : {r : ℕ} → r ≤ length l / entry_width → IsPartitionPoint (λ e. not (lt_z z (get_or e 0 (pos 0))) ≡ true) (λ e. not (lt_z z (get_or e 0 (pos 0))) ≡ false) chunks r
+  pub parted : {r : ℕ} → r ≤ length l / entry_width
+      → IsPartitionPoint (λ e. not (lt_z z (get_or e 0 (pos 0))) ≡ true) (λ e. not (lt_z z (get_or e 0 (pos 0))) ≡ false) chunks r
       → Parts l (length l / entry_width) z r
   parted h w =
       record {

@@ -1,6 +1,6 @@
 -- The checks of the calls on a text, for their answers: a refusal's number is not 0 and it lays nothing; what each check answers, from its test; and
 -- what holds of every refusal that can come and of what stands behind the checks, holds of the answer. By cases on the tests. Assumes nothing.
-use mathlib.Core.Path.{◌≡◌, refl, sym}
+use mathlib.Core.Path.{◌≡◌, refl, sym, ap, ◌∙◌}
 use mathlib.Core.Bool.{Bool, true, false}
 use mathlib.Core.List.{List}
 use Prim.Native.Nat.{ℕ, ◌*◌, ◌≤◌, ◌<◌}
@@ -8,6 +8,8 @@ use lib.Dec.{ltb, eqb}
 use lib.IntN.{ℤ}
 use lib.ListN.{length}
 use Rattle.std.specs.Prelude.{Result, Ok, Err}
+use Rattle.std.specs.Result.{IsErrAnd}
+use Rattle.std.proofs.lemmas.Result.{err_from_is_err_and}
 use borrow.Author.Tests.{ltb-true, ltb-false, le-ltb}
 use Rattle.base.specs.Choice.{pick}
 use Rattle.base.proofs.Tests.{pick_case}
@@ -23,6 +25,10 @@ use Rattle.reading.specs.Refusals.{refusal_number, after_check, judge_of, after_
 use Rattle.reading.specs.declared.counts.Counts.{Counts}
 use Rattle.reading.specs.declared.refusal.Refusal.{Refusal}
 use Rattle.reading.specs.declared.refusal.Refusal.TheVariants.{TooLong, NotUtf8, NoPlace, TokensShort, StringsShort, ReportsShort}
+
+-- the exit of a `?` gives the refusal that it has
+pub refusal_is : {T : Type 0} {x : Refusal} {r : Result T Refusal} → IsErrAnd r (λ y. y ≡ x) → r ≡ Err x
+refusal_is {r = r} e = let p = err_from_is_err_and r e in p.1 ∙ ap Err p.2
 
 -- a refusal's number is not 0
 pub number_some : (r : Refusal) → eqb (refusal_number r) 0 ≡ false

@@ -32,7 +32,8 @@ impl Judged<'_> {
     }
 }
 
-// Reads the token after a place: its record, its string and its reports, each from the buffer's start.
+// Reads the token after a place: its record, its string and its reports, each from the buffer's start. The buffers come as three slices: see
+// `Buffers`.
 pub fn read_token(
     text: &[u8],
     place: Place,

@@ -15,12 +15,12 @@ use token::layout::{RECORD_WIDTH, REPORT_WIDTH, Record};
 use token::place::Place;
 use token::reason::number_of;
 
-// Stores the record of a token whose string starts at `at`: there is a String's value, any other's is in the text. The buffers' parts are filled one
+// Stores the record of a token whose string starts at `value_at`: there is a String's value, any other's is in the text. The buffers' parts are filled one
 // behind the other, so each of these functions gets the whole buffer and where its part begins, as `base::store` does.
 #[inline(always)]
-fn put_record(t: Token, at: usize, out: &mut [i64], i: usize)
-    requires { RecordRoom at t (length out.old) i }
-    ensures { out.new ≡ sets out.old i (record_numbers (record_of at t)) }
+fn put_record(t: Token, value_at: usize, out: &mut [i64], i: usize)
+    requires { RecordRoom value_at t (length out.old) i }
+    ensures { out.new ≡ sets out.old i (record_numbers (record_of value_at t)) }
 {
     let record = Record {
         kind: t.kind.number(),
@@ -30,7 +30,11 @@ fn put_record(t: Token, at: usize, out: &mut [i64], i: usize)
         end: t.end.offset,
         line: t.start.line,
         column: t.start.column,
-        value: if t.kind.is_string() { at } else { t.value },
+        value: if t.kind.is_string() {
+            value_at
+        } else {
+            t.value
+        },
         size: t.size,
         precision: t.precision,
         digits: t.digits,
@@ -59,7 +63,7 @@ fn put_notes(text: &[u8], t: Token, how: Settings, out: &mut [i64], at: usize)
     ensures { out.new ≡ sets out.old at (notes_numbers text.now t.start.offset (notes_in how.mode how.limit (drop t.start.offset text.now))) }
 {
     if t.reports != 0 {
-        // A place of its own, so that the token need not lie in memory.
+        // A place of its own, so that the token need not lie in memory: see `end_place` of lexer, where the number stands.
         let start = Place {
             offset: t.start.offset,
             line: t.start.line,

@@ -77,7 +77,7 @@ impl Judged<'_> {
 }
 
 // Reads a whole text: the records of its tokens, its strings and its reports, each from the buffer's start. It measures first, but where the
-// buffers suffice in any case.
+// buffers suffice in any case. The buffers come as three slices: see `Buffers`.
 pub fn read_text(
     text: &[u8],
     how: Settings,

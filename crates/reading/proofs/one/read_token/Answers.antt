@@ -1,12 +1,11 @@
 -- `read_token` answers by the first check that fails, before anything is stored; else it stores the token. Assumes nothing.
 use mathlib.Core.Bool.{true}
 use mathlib.Core.Path.{◌≡◌, refl, sym, ◌∙◌}
-use Rattle.std.proofs.lemmas.Result.{err_from_is_err_and}
 use Rattle.std.specs.Prelude.{Ok}
 use Rattle.utf8.proofs.Valid.{octets_valid}
 use Rattle.reading.specs.Refusals.{judge_of}
 use Rattle.reading.specs.Answers.{is_place}
-use Rattle.reading.proofs.Refusals.{fitting, well_octets}
+use Rattle.reading.proofs.Refusals.{fitting, well_octets, refusal_is}
 use Rattle.reading.proofs.TokenAnswers.{walkable, few, counted, unfit, no_place, short, Passed, room, stored, done}
 use Rattle.reading.proofs.Rows.{held_by}
 use Rattle.reading.proofs.Turns.{none_is}
@@ -37,8 +36,7 @@ passed c =
 
 pub returns-in_err-judge : goal.returns-in_err-judge
 returns-in_err-judge c =
-    let p = err_from_is_err_and c.from_residual.result c.from_residual.ensures.1 in
-    rw (p.1, p.2) (unfit (sym c.in_err-judge.ensures))
+    rw (refusal_is c.from_residual.ensures.1) (unfit (sym c.in_err-judge.ensures))
 
 pub returns-then-not-is_place : goal.returns-then-not-is_place
 returns-then-not-is_place c = no_place (sym c.in_ok-judge.ensures) (sym c.is_place.ensures ∙ c.if-not-is_place.true)
@@ -63,8 +61,7 @@ returns-in_err-fit c =
     let at = goal.at.returns-in_err-fit c in
     let j = fit at.Else-not-is_place in
     let f = placed at.Else-not-is_place in
-    let p = err_from_is_err_and c.from_residual-in_err-fit.result c.from_residual-in_err-fit.ensures.1 in
-    rw (p.1, p.2)
+    rw (refusal_is c.from_residual-in_err-fit.ensures.1)
     (short j f (rw (counted _ _ _ _ j f c.next_token-t.ensures c.string_size.ensures) at (sym c.fit.ensures ∙ c.in_err-fit.was)))
 
 pub put-requires : goal.put-requires

@@ -10,7 +10,7 @@ use Rattle.reading.proofs.put.put_record.Goals.{Joined-is_string, then-is_string
 use Rattle.reading.proofs.put.put_record.Goals as goal
 
 -- where the value is
-value_is : (c : Joined-is_string) → let a = c.args in c.if-is_string.record ≡ pick (is_string a.t.kind) a.at a.t.value
+value_is : (c : Joined-is_string) → let a = c.args in c.if-is_string.record ≡ pick (is_string a.t.kind) a.value_at a.t.value
 value_is c =
     elim c.if-is_string.branch [
       | then-is_string w ↦ w.record-is ∙ (rw (← c.is_string.ensures, w.if-is_string.true))

@@ -2,10 +2,9 @@
 -- Assumes nothing.
 use mathlib.Core.Path.{sym, ◌∙◌}
 use lib.ListN.{length}
-use Rattle.std.proofs.lemmas.Result.{err_from_is_err_and}
 use Rattle.reading.specs.Buffers.{whole_laid}
 use Rattle.reading.specs.Passes.{Room}
-use Rattle.reading.proofs.Refusals.{enough}
+use Rattle.reading.proofs.Refusals.{enough, refusal_is}
 use Rattle.reading.proofs.Fits.{suffice_room}
 use Rattle.reading.proofs.Rows.{held_by}
 use Rattle.reading.proofs.TextAnswers.{most_few, few, unfit, short, done}
@@ -24,8 +23,7 @@ roomy c =
 
 pub returns-in_err-judge : goal.returns-in_err-judge
 returns-in_err-judge c =
-    let p = err_from_is_err_and c.from_residual.result c.from_residual.ensures.1 in
-    rw (p.1, p.2) (unfit (sym c.in_err-judge.ensures))
+    rw (refusal_is c.from_residual.ensures.1) (unfit (sym c.in_err-judge.ensures))
 
 pub fit-requires : goal.fit-requires
 fit-requires c = most_few _ _ (sym c.in_ok-judge.ensures) c.most.ensures
@@ -35,8 +33,7 @@ fit-requires-then-is_err c = few _ _ _ (sym c.in_ok-judge.ensures) c.measure.ens
 
 pub returns-in_err-fit : goal.returns-in_err-fit
 returns-in_err-fit c =
-    let p = err_from_is_err_and c.from_residual-in_err-fit.result c.from_residual-in_err-fit.ensures.1 in
-    rw (p.1, p.2)
+    rw (refusal_is c.from_residual-in_err-fit.ensures.1)
     (short (sym c.in_ok-judge.ensures) (rw c.measure.ensures at (sym c.fit-then-is_err.ensures ∙ c.in_err-fit.was)))
 
 pub write-requires : goal.write-requires

@@ -56,12 +56,12 @@ pub fn read_token(
         strings: string_size(t.kind, t.size),
         reports: t.reports,
     };
-    counts.fit(tokens.len(), strings.len(), reports.len())?;
     let mut buffers = Buffers {
         tokens,
         strings,
         reports,
     };
+    buffers.hold(counts)?;
     buffers.put(text, t, how, Counts::default());
     Ok(OneToken {
         strings: counts.strings,

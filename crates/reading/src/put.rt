@@ -5,9 +5,11 @@ ghost use Rattle.token.specs.Layout.{record_numbers};
 ghost use Rattle.lexeme.specs.Helpers.{notes_numbers};
 ghost use Rattle.lexer.specs.Reading.{string_in, notes_in};
 ghost use Rattle.reading.specs.Buffers.{record_of};
-ghost use Rattle.reading.specs.Passes.{RecordRoom, StringRoom, NotesRoom, TokenRoom, TokenPut, SameBuffers};
+ghost use Rattle.reading.specs.Refusals.{room_of};
+ghost use Rattle.reading.specs.Passes.{Few, RecordRoom, StringRoom, NotesRoom, TokenRoom, TokenPut, SameBuffers};
 
 use crate::counts::Counts;
+use crate::refusal::Refusal;
 use lexer::next::{Token, string_size};
 use lexer::put::{put_reports, put_string};
 use lexer::reading::{Reading, Settings};
@@ -83,6 +85,24 @@ pub struct Buffers<'a> {
 }
 
 impl Buffers<'_> {
+    // Checks 4, 5 and 6, in this order, of buffers for so much.
+    #[tactic(auto, unfolding(crate::specs::Refusals::room_of))]
+    pub fn hold(&self, counts: Counts) -> Result<(), Refusal>
+        requires { Few counts }
+        ensures { result ≡ room_of counts (length self.now.tokens.now) (length self.now.strings.now) (length self.now.reports.now) }
+    {
+        if self.tokens.len() < counts.tokens * RECORD_WIDTH {
+            return Err(Refusal::TokensShort);
+        }
+        if self.strings.len() < counts.strings {
+            return Err(Refusal::StringsShort);
+        }
+        if self.reports.len() < counts.reports * REPORT_WIDTH {
+            return Err(Refusal::ReportsShort);
+        }
+        Ok(())
+    }
+
     // Writes a token of the text, after what is counted: its record, its string and its reports. It becomes a part of its callers, so that the
     // token need not lie in memory.
     #[inline(always)]

@@ -89,14 +89,13 @@ pub fn read_text(
 {
     judge(text)?;
     let judged = Judged { text };
-    let (nt, ns, nr) = (tokens.len(), strings.len(), reports.len());
-    if judged.most(how.mode).fit(nt, ns, nr).is_err() {
-        judged.measure(how).fit(nt, ns, nr)?;
-    }
     let mut buffers = Buffers {
         tokens,
         strings,
         reports,
     };
+    if buffers.hold(judged.most(how.mode)).is_err() {
+        buffers.hold(judged.measure(how))?;
+    }
     Ok(judged.write(how, &mut buffers))
 }

@@ -8,7 +8,7 @@ use Rattle.reading.proofs.Refusals.{enough, refusal_is}
 use Rattle.reading.proofs.Fits.{suffice_room}
 use Rattle.reading.proofs.Rows.{held_by}
 use Rattle.reading.proofs.TextAnswers.{most_few, few, unfit, short, done}
-use Rattle.reading.proofs.text.read_text.Goals.{Joined-is_err, then-is_err+in_ok-fit, else-is_err}
+use Rattle.reading.proofs.text.read_text.Goals.{Joined-is_err, then-is_err+in_ok-hold, else-is_err}
 use borrow.Author.Rules.{rules}
 use Rattle.reading.proofs.text.read_text.Goals as goal
 
@@ -17,24 +17,24 @@ roomy : (c : Joined-is_err) → let a = c.args in Room (whole_laid a.how.mode a.
     (length a.reports.now)
 roomy c =
     elim c.if-is_err.branch [
-      | then-is_err+in_ok-fit w ↦ enough (rw w.measure.ensures at (sym w.fit-then-is_err.ensures ∙ w.in_ok-fit.was))
-      | else-is_err w ↦ suffice_room _ _ _ _ _ _ (rw (c.fit.ensures, c.most.ensures, w.if-is_err.false) at c.is_err.ensures.negation)
+      | then-is_err+in_ok-hold w ↦ enough (rw w.measure.ensures at (sym w.hold-then-is_err.ensures ∙ w.in_ok-hold.was))
+      | else-is_err w ↦ suffice_room _ _ _ _ _ _ (rw (c.hold.ensures, c.most.ensures, w.if-is_err.false) at c.is_err.ensures.negation)
     ]
 
 pub returns-in_err-judge : goal.returns-in_err-judge
 returns-in_err-judge c =
     rw (refusal_is c.from_residual.ensures.1) (unfit (sym c.in_err-judge.ensures))
 
-pub fit-requires : goal.fit-requires
-fit-requires c = most_few _ _ (sym c.in_ok-judge.ensures) c.most.ensures
+pub hold-requires : goal.hold-requires
+hold-requires c = most_few _ _ (sym c.in_ok-judge.ensures) c.most.ensures
 
-pub fit-requires-then-is_err : goal.fit-requires-then-is_err
-fit-requires-then-is_err c = few _ _ _ (sym c.in_ok-judge.ensures) c.measure.ensures
+pub hold-requires-then-is_err : goal.hold-requires-then-is_err
+hold-requires-then-is_err c = few _ _ _ (sym c.in_ok-judge.ensures) c.measure.ensures
 
-pub returns-in_err-fit : goal.returns-in_err-fit
-returns-in_err-fit c =
-    rw (refusal_is c.from_residual-in_err-fit.ensures.1)
-    (short (sym c.in_ok-judge.ensures) (rw c.measure.ensures at (sym c.fit-then-is_err.ensures ∙ c.in_err-fit.was)))
+pub returns-in_err-hold : goal.returns-in_err-hold
+returns-in_err-hold c =
+    rw (refusal_is c.from_residual-in_err-hold.ensures.1)
+    (short (sym c.in_ok-judge.ensures) (rw c.measure.ensures at (sym c.hold-then-is_err.ensures ∙ c.in_err-hold.was)))
 
 pub write-requires : goal.write-requires
 write-requires c = roomy (goal.at.write-requires c).Joined-is_err

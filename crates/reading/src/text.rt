@@ -10,7 +10,7 @@ use crate::put::Buffers;
 use crate::refusal::Refusal;
 use lexeme::Mode;
 use lexer::cursor::Cursor;
-use lexer::next::{next_lexeme, string_size};
+use lexer::next::next_lexeme;
 use lexer::reading::{Reading, Settings};
 use token::place::Place;
 
@@ -30,8 +30,7 @@ impl Judged<'_> {
             if x.kind.is_eof() {
                 return counts;
             }
-            counts.strings += string_size(x.kind, x.size);
-            counts.reports += x.reports;
+            counts.count(x.kind, x.size, x.reports);
             at = found.start + x.len;
         }
     }
@@ -54,8 +53,7 @@ impl Judged<'_> {
             if t.kind.is_eof() {
                 return counts;
             }
-            counts.strings += string_size(t.kind, t.size);
-            counts.reports += t.reports;
+            counts.count(t.kind, t.size, t.reports);
             place = t.end;
         }
     }

@@ -15,14 +15,9 @@ next_lexeme-found-requires c = (c.tokens.invariant.inside, well_octets _ (fittin
 pub returns-then-is_eof : goal.returns-then-is_eof
 returns-then-is_eof c = measuring_end c.tokens.invariant c.next_lexeme-found.ensures (eqb-true _ _ (sym c.is_eof.ensures ∙ c.if-is_eof.true))
 
-pub overflow_add-counts-in-tokens : goal.overflow_add-counts-in-tokens
-overflow_add-counts-in-tokens c = record {
-  fits = omega
-      (arith, c.string_size.ensures, measuring_few c.tokens.invariant c.next_lexeme-found.ensures, (fitting _ c.args.self.fit).0);
-}
-
-pub overflow_add-counts-in-tokens-2 : goal.overflow_add-counts-in-tokens-2
-overflow_add-counts-in-tokens-2 c = record { fits = omega (arith, measuring_few c.tokens.invariant c.next_lexeme-found.ensures, (fitting _ c.args.self.fit).0) }
+pub count-requires : goal.count-requires
+count-requires c = let m = measuring_few c.tokens.invariant c.next_lexeme-found.ensures in let short = (fitting _ c.args.self.fit).0 in
+    (omega arith, omega arith)
 
 pub overflow_add-at : goal.overflow_add-at
 overflow_add-at c = record { fits = omega (arith, measuring_few c.tokens.invariant c.next_lexeme-found.ensures, (fitting _ c.args.self.fit).0) }
@@ -32,6 +27,6 @@ tokens-smaller c = measuring_less c.tokens.invariant c.next_lexeme-found.ensures
     (eqb-false _ _ (sym c.is_eof.ensures ∙ c.if-is_eof.false))
 
 pub tokens-preserved : goal.tokens-preserved
-tokens-preserved c = rw c.string_size.ensures
+tokens-preserved c = rw c.count.ensures
     (measuring_turn c.tokens.invariant c.next_lexeme-found.ensures
     (eqb-false _ _ (sym c.is_eof.ensures ∙ c.if-is_eof.false)))

@@ -22,15 +22,8 @@ returns-then-is_eof c =
     let e = passing_end c.tokens.invariant c.each_token-t.ensures p.same_buffers p.put (eqb-true _ _ (sym c.is_eof.ensures ∙ c.if-is_eof.true)) in
     record { same_buffers = e.0; counted = e.1; stored = e.2 }
 
-pub overflow_add-counts-in-tokens : goal.overflow_add-counts-in-tokens
-overflow_add-counts-in-tokens c =
-    let w = c.tokens.invariant in
-    record { fits = omega (arith, c.string_size.ensures, passing_few w c.each_token-t.ensures, w.walkable.short) }
-
-pub overflow_add-counts-in-tokens-2 : goal.overflow_add-counts-in-tokens-2
-overflow_add-counts-in-tokens-2 c =
-    let w = c.tokens.invariant in
-    record { fits = omega (arith, passing_few w c.each_token-t.ensures, w.walkable.short) }
+pub count-requires : goal.count-requires
+count-requires c = let w = c.tokens.invariant in let m = passing_few w c.each_token-t.ensures in let short = w.walkable.short in (omega arith, omega arith)
 
 pub tokens-smaller : goal.tokens-smaller
 tokens-smaller c = passing_less c.tokens.invariant c.each_token-t.ensures (eqb-false _ _ (sym c.is_eof.ensures ∙ c.if-is_eof.false))
@@ -38,5 +31,5 @@ tokens-smaller c = passing_less c.tokens.invariant c.each_token-t.ensures (eqb-f
 pub tokens-preserved : goal.tokens-preserved
 tokens-preserved c =
     let p = c.put.ensures in
-    rw c.string_size.ensures
+    rw c.count.ensures
     (passing_turn c.tokens.invariant c.each_token-t.ensures p.same_buffers p.put (eqb-false _ _ (sym c.is_eof.ensures ∙ c.if-is_eof.false)))

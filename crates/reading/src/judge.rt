@@ -19,6 +19,7 @@ pub fn judge(text: &[u8]) -> Result<(), Refusal>
 }
 
 // A text that has passed them: short enough, and UTF-8. Its type says the bytes too, but a method's proof sees of a field only what the struct says.
+// It is made behind `judge(text)?`: a function that gives it was tried, and each proof behind that had to rewrite by the equation of the two texts.
 #[derive(Clone, Copy)]
 pub(crate) struct Judged<'a> {
     pub(crate) text: &'a [u8],

@@ -35,8 +35,7 @@ passed c =
     }
 
 pub returns-in_err-judge : goal.returns-in_err-judge
-returns-in_err-judge c =
-    rw (refusal_is c.from_residual.ensures.1) (unfit (sym c.in_err-judge.ensures))
+returns-in_err-judge c = rw (refusal_is c.from_residual.ensures.1) (unfit (sym c.in_err-judge.ensures))
 
 pub returns-then-not-is_place : goal.returns-then-not-is_place
 returns-then-not-is_place c = no_place (sym c.in_ok-judge.ensures) (sym c.is_place.ensures ∙ c.if-not-is_place.true)

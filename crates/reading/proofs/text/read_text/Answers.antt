@@ -22,8 +22,7 @@ roomy c =
     ]
 
 pub returns-in_err-judge : goal.returns-in_err-judge
-returns-in_err-judge c =
-    rw (refusal_is c.from_residual.ensures.1) (unfit (sym c.in_err-judge.ensures))
+returns-in_err-judge c = rw (refusal_is c.from_residual.ensures.1) (unfit (sym c.in_err-judge.ensures))
 
 pub hold-requires : goal.hold-requires
 hold-requires c = most_few _ _ (sym c.in_ok-judge.ensures) c.most.ensures

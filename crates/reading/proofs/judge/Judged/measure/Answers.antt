@@ -16,7 +16,9 @@ pub returns-then-is_eof : goal.returns-then-is_eof
 returns-then-is_eof c = measuring_end c.tokens.invariant c.next_lexeme-found.ensures (eqb-true _ _ (sym c.is_eof.ensures ∙ c.if-is_eof.true))
 
 pub count-requires : goal.count-requires
-count-requires c = let m = measuring_few c.tokens.invariant c.next_lexeme-found.ensures in let short = (fitting _ c.args.self.fit).0 in
+count-requires c =
+    let m = measuring_few c.tokens.invariant c.next_lexeme-found.ensures in
+    let short = (fitting _ c.args.self.fit).0 in
     (omega arith, omega arith)
 
 pub overflow_add-at : goal.overflow_add-at

@@ -23,7 +23,11 @@ returns-then-is_eof c =
     record { same_buffers = e.0; counted = e.1; stored = e.2 }
 
 pub count-requires : goal.count-requires
-count-requires c = let w = c.tokens.invariant in let m = passing_few w c.each_token-t.ensures in let short = w.walkable.short in (omega arith, omega arith)
+count-requires c =
+    let w = c.tokens.invariant in
+    let m = passing_few w c.each_token-t.ensures in
+    let short = w.walkable.short in
+    (omega arith, omega arith)
 
 pub tokens-smaller : goal.tokens-smaller
 tokens-smaller c = passing_less c.tokens.invariant c.each_token-t.ensures (eqb-false _ _ (sym c.is_eof.ensures ∙ c.if-is_eof.false))

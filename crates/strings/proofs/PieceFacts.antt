@@ -119,7 +119,8 @@ module _ (t : List ℕ) (two : 1 < length t) where
   fine_hex : byte t 1 ≡ 0x78 → PieceFacts t (hex_piece t)
   unfolding hex_piece hex_byte hex_of reason_number
   fine_hex x =
-      fine_byte (bad_escape R.BadX 0x78) (hex_byte t) (λ e. in_text (λ (c : ℕ). is_some (hex_of c)) t 3 refl (second_some (hex_of (byte t 2)) (hex_of (byte t 3)) _ e))
+      fine_byte (bad_escape R.BadX 0x78) (hex_byte t)
+      (λ e. in_text (λ (c : ℕ). is_some (hex_of c)) t 3 refl (second_some (hex_of (byte t 2)) (hex_of (byte t 3)) _ e))
       (lit≤ tt) (sym x) (omega arith)
 
   fine_oct : byte t 1 < 0x80 → PieceFacts t (oct_piece (byte t 1) t)

@@ -18,7 +18,7 @@ use token::reason::Reason;
 use utf8::check::char_end;
 use utf8::state::State;
 
-// The reason that an ending gives a strict literal.
+// The reason that an ending gives a strict literal. Beside `end_report`, the tolerant one's: with the mode for a parameter, two arms of five would test it.
 #[tactic(auto, unfolding(crate::specs::Literal::end_reason))]
 fn end_reason(end: End) -> Option<Reason>
     ensures { result ≡ end_reason end }
@@ -106,6 +106,7 @@ pub fn put_string(s: &[u8], mode: Mode, len: usize, size: usize, out: &mut [u8],
     let until = place + size;
     let mut i = 1;
     let mut p = place;
+    // A `loop`: a step is as long as what was found.
     loop {
         let left = until - p;
         if strict & (left + 1 == len - i) {

@@ -127,7 +127,7 @@ fn is_ordinary(b: u8) -> bool
 }
 
 // The end of the run of bytes from i on that stand for themselves. Where escapes follow each other there are none, and the first byte says it.
-// From an offset and not of a slice, as the searches of base, which it calls.
+// From an offset and not of a slice, of which each of its callers would add the offset to what it gives.
 #[tactic(auto, using(base::proofs::Reaches::reach_le, base::proofs::Reaches::reach_ge))]
 pub fn ordinary_end(s: &[u8], i: usize) -> usize
     requires { i ≤ length s.now }
@@ -193,7 +193,7 @@ pub struct Literal<'a> {
 
 impl<'a> Literal<'a> {
     // The part from i on of characters that stand for themselves and escapes of one letter. These leave no character begun; where one has, in
-    // what is decoded or in the text, the part is empty.
+    // what is decoded or in the text, the part is empty. An offset, since the part's end is counted from the token's start.
     fn part_at(&self, i: usize, state: State) -> Part
         requires { i ≤ length self.now.text.now }
         ensures spelled { Spells self.now.text.now i result.end result.count }
@@ -216,7 +216,8 @@ impl<'a> Literal<'a> {
         }
     }
 
-    // A part at once and then a step, until one ends the literal.
+    // A part at once and then a step, until one ends the literal. A `loop`: a step is as long as what was found. `put_string` and
+    // `put_tolerant_notes` walk so too, and each takes another shortcut: one function for the three would have theirs for parameters.
     pub fn measure(&self, mode: Mode) -> Measure
         ensures { result ≡ measured 0 0 State.Between (literal_of mode self.now.text.now) }
     {

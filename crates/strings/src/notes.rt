@@ -42,6 +42,7 @@ fn put_tolerant_notes(text: &[u8], start: Place, out: &mut [i64], at: usize)
     let mut i = 1;
     let mut p = at;
     let mut place = start;
+    // A `loop`: a step is as long as what was found.
     loop {
         let e = ordinary_end(s, i);
         let st = step_at(s, e, Mode::Tolerant);

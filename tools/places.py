@@ -102,7 +102,7 @@ report('2', 'groups of functions whose bodies differ in names, types and constan
        (' ~ '.join(f.where for f in g) for g in groups.values() if len(g) > 1))
 
 # ---- 3
-report('3', 'loops that are no `for`', lines(r'^ *(while|loop) ?'))
+report('3', 'loops that are no `for`', lines(r"^ *('\w+: )?(while|loop) ?"))
 report('3', 'of these, such as count an index up or down by a fixed step', (
     f.where for f in fns for m in re.finditer(r'^( *)while (\w+ < |0 < \w+ |.* < \w+).*\{\n(.*?)^\1\}', f.body, re.M | re.S)
     if re.search(r'^' + m.group(1) + r'    (\w+) [-+]= \w+;', m.group(3), re.M)))

@@ -98,7 +98,8 @@ short_listed text T S R O h =
 module _ {text : List ℕ} {T : List ℤ} {S : List ℕ} {R : List ℤ} {O : List ℕ} {r : Result ℕ OutShort} {T' : List ℤ} {S' : List ℕ} {R' : List ℤ}
     {O' : List ℕ} (w : Lists text T S R O r T' S' R' O') (e : r ≡ Err (record {})) where
   -- after a reading it was the line of a refusal that was too long: the tokens' lines have been measured before
-  refused : (x : Result Counts Refusal) → lines_size text ≤ length O → ReadsText Strict max_bytes_literal_length text T S R x T' S' R' → Fills (listing_of text x) O r O'
+  refused : (x : Result Counts Refusal) → lines_size text ≤ length O → ReadsText Strict max_bytes_literal_length text T S R x T' S' R'
+      → Fills (listing_of text x) O r O'
       → Untouched T S R O r T' S' R' O'
   refused x h u f = ⊎_elim (λ a. accepted a.1) (λ z. kept z) (answered x)
     where

@@ -1,5 +1,13 @@
 -- Helper definitions, for proofs and inner contracts alone: the numbers of an answer, and numbers that fit one.
 use Rattle.std.specs.Prelude.{List, [], ◌∷◌, ℕ, ◌<◌, get_or}
+use Rattle.lexer.specs.declared.reading.Settings.{Settings}
+use Rattle.pxf.specs.Texts.{reading_of}
+
+-- Types of the code (lexer/src/reading.rt). `Settings`: the `mode` and the `limit` of a reading.
+
+-- how C asks that a text is read, by the two numbers that it hands over
+abbrev pub settings_of : ℕ → ℕ → Settings
+settings_of mode limit = record { mode = reading_of mode; limit = limit }
 
 -- the first six of some numbers, with zeros where there are fewer
 abbrev pub padded : List ℕ → List ℕ

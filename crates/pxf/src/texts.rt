@@ -1,6 +1,7 @@
 // Texts, for C.
 ghost use Rattle.std.specs.Prelude.{◌≡◌};
 ghost use Rattle.pxf.specs.Texts.{reading_of, TextRead, TokenRead, PlaceGiven};
+ghost use Rattle.pxf.specs.Helpers.{settings_of};
 
 use crate::values;
 use lexer::reading::{Reading, Settings};
@@ -16,6 +17,16 @@ fn reading_of(mode: u8) -> Reading
     Reading::Strict
 }
 
+// How C asks that a text is read.
+fn settings(mode: u8, limit: u64) -> Settings
+    ensures { result ≡ settings_of mode limit }
+{
+    Settings {
+        mode: reading_of(mode),
+        limit: limit as usize,
+    }
+}
+
 // Reads a whole text: `answer` gets the counts of tokens, string bytes and reports.
 #[unsafe(no_mangle)]
 pub extern "C" fn pxf_read_text(
@@ -29,10 +40,7 @@ pub extern "C" fn pxf_read_text(
 ) -> u8
     ensures { TextRead mode limit text.now tokens.old strings.old reports.old result tokens.new strings.new reports.new answer.new }
 {
-    let how = Settings {
-        mode: reading_of(mode),
-        limit: limit as usize,
-    };
+    let how = settings(mode, limit);
     let r = reading::text::read_text(text, how, tokens, strings, reports);
     values::give(r, answer)
 }
@@ -53,10 +61,7 @@ pub extern "C" fn pxf_read_token(
 ) -> u8
     ensures { TokenRead offset line column mode limit text.now tokens.old strings.old reports.old result tokens.new strings.new reports.new answer.new }
 {
-    let how = Settings {
-        mode: reading_of(mode),
-        limit: limit as usize,
-    };
+    let how = settings(mode, limit);
     let place = Place {
         offset: offset as usize,
         line: line as usize,

@@ -13,7 +13,14 @@ write_number-end-requires c =
     let f : FitsSigned w64 (get_or row k (pos 0)) = search rules in
     let e = line_at_lem row k (omega arith) in
     rw (to_z-of_z w64 _ f)
-    (omega (arith, c.loop-k.invariant.room, c.loop-k.invariant.same, ap length e, length-append (number_at row k) (line_text (drop (k + 1) row)), number_length row k))
+    (omega (
+      arith,
+      c.loop-k.invariant.room,
+      c.loop-k.invariant.same,
+      ap length e,
+      length-append (number_at row k) (line_text (drop (k + 1) row)),
+      number_length row k,
+    ))
 
 pub loop-k-preserved : goal.loop-k-preserved
 loop-k-preserved c =

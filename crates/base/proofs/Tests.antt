@@ -7,7 +7,7 @@ use Prim.Native.Nat.{ℕ, ◌≤◌, ◌<◌}
 use native.Mathlib.Omega.{arith}
 use borrow.Author.Tests.{not-true, not-false, le-leb, lt-leb, leb-true, ltb-true, ltb-false, eqb-true, eqb-false}
 use mir.Val.{bool_byte}
-use lib.Dec.{T, leb, ltb, eqb}
+use lib.Dec.{T, leb, ltb, eqb, lit≤}
 use lib.ListN.{length, get_or-eq_default}
 use Rattle.base.specs.Choice.{pick}
 use Rattle.base.specs.Bytes.{byte, within}
@@ -134,6 +134,11 @@ within_one k x =
 pub as_number : (t : Bool) → bool_byte t ≡ pick t 1 0
 as_number true = refl
 as_number false = refl
+
+-- which is at most 1
+pub one_or_zero : (t : Bool) → bool_byte t ≤ 1
+one_or_zero true = lit≤ tt
+one_or_zero false = lit≤ tt
 
 -- the bytes of digits
 pub digit_range : (b : ℕ) → is_digit b ≡ true → (48 ≤ b) × (b ≤ 57)

@@ -17,12 +17,12 @@ use Rattle.base.specs.Blocks.{window_run, Ahead}
 use Rattle.base.proofs.Tests.{by_cases, true_false}
 use Rattle.base.proofs.Reaches.{run_fails, run_all, reach_step}
 
-module _ (p : ℕ → ℕ → Bool) (s : List ℕ) where
-  -- what the search has found before the byte at j: where the run ends, or 64 if it is not ended yet
+module _ (p : ℕ → ℕ → Bool) (s : List ℕ) (n : ℕ) where
+  -- what the search of n bytes has found before the byte at j: where the run ends, or n if it is not ended yet
   abbrev pub Searched : ℕ → ℕ → Type 0
-  Searched j m = m ≡ pick (ltb (run p s) j) (run p s) 64
+  Searched j m = m ≡ pick (ltb (run p s) j) (run p s) n
 
-  pub searched_first : Searched 0 64
+  pub searched_first : Searched 0 n
   searched_first = rw (le-ltb (run p s) 0 (omega arith))
 
   over : (w : ℕ) → {j : ℕ} → j ≤ w → (w ≡ j → ⊥) → j + 1 ≤ w
@@ -31,27 +31,26 @@ module _ (p : ℕ → ℕ → Bool) (s : List ℕ) where
   same : (w : ℕ) → {j : ℕ} → j ≤ w → (j < w → ⊥) → w ≡ j
   same w h n = omega (arith, n)
 
-  pub searched_turn : (j m k : ℕ) → 64 < length s → j < 64 → Searched j m → pick (p (byte s j) (byte s (j + 1))) 64 j ≡ k → Searched (j + 1) (min m k)
+  pub searched_turn : (j m k : ℕ) → n ≤ length s → j < n → Searched j m → pick (p (byte s j) (byte s (j + 1))) n j ≡ k → Searched (j + 1) (min m k)
   searched_turn j m k l h u v = rw (u, ← v) (go (ltb w j) refl (p (byte s j) (byte s (j + 1))) refl)
     where
       w : ℕ
       w = run p s
 
-      go : (x : Bool) → ltb w j ≡ x → (b : Bool) → p (byte s j) (byte s (j + 1)) ≡ b → min (pick x w 64) (pick b 64 j) ≡ pick (ltb w (j + 1)) w 64
+      go : (x : Bool) → ltb w j ≡ x → (b : Bool) → p (byte s j) (byte s (j + 1)) ≡ b → min (pick x w n) (pick b n j) ≡ pick (ltb w (j + 1)) w n
       go true e true f = rw (lt-ltb w (j + 1) (omega (arith, ltb-true w j e))) (omega (arith, ltb-true w j e))
       go true e false f = rw (lt-ltb w (j + 1) (omega (arith, ltb-true w j e))) (omega (arith, ltb-true w j e))
       go false e true f =
-          let n : (w ≡ j → ⊥) = λ q. true_false (p (byte s j) (byte s (j + 1))) f (rw q at (run_fails p s (omega arith))) in
-          rw (le-ltb w (j + 1) (over w (ltb-false w j e) n))
+          let z : (w ≡ j → ⊥) = λ q. true_false (p (byte s j) (byte s (j + 1))) f (rw q at (run_fails p s (omega arith))) in
+          rw (le-ltb w (j + 1) (over w (ltb-false w j e) z)) (omega arith)
       go false e false f =
-          let n : (j < w → ⊥) = λ q. true_false (p (byte s j) (byte s (j + 1))) (run_all p s j q) f in
-          rw (same w (ltb-false w j e) n, lt-ltb j (j + 1) (omega arith)) (omega arith)
+          let z : (j < w → ⊥) = λ q. true_false (p (byte s j) (byte s (j + 1))) (run_all p s j q) f in
+          rw (same w (ltb-false w j e) z, lt-ltb j (j + 1) (omega arith)) (omega arith)
 
-  pub searched_end : (j m : ℕ) → 64 ≤ j → j ≤ 64 → Searched j m → m ≡ window_run p s
-  unfolding window_run
+  pub searched_end : (j m : ℕ) → n ≤ j → j ≤ n → Searched j m → m ≡ min (run p s) n
   searched_end j m h k u =
-      let q : j ≡ 64 = omega arith in
-      (rw q at u) ∙ by_cases (ltb (run p s) 64) (λ e. rw e (omega (arith, ltb-true (run p s) 64 e))) (λ e. rw e (omega (arith, ltb-false (run p s) 64 e)))
+      let q : j ≡ n = omega arith in
+      (rw q at u) ∙ by_cases (ltb (run p s) n) (λ e. rw e (omega (arith, ltb-true (run p s) n e))) (λ e. rw e (omega (arith, ltb-false (run p s) n e)))
 
 -- the bytes of a window, the first `window_run` of them, stay in the run
 module _ (p : ℕ → ℕ → Bool) (s : List ℕ) (i : ℕ) (l : 64 < length s - i) where

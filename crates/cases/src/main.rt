@@ -10,7 +10,7 @@ ghost use Rattle.token.specs.Layout.{record_width, report_width};
 use base::answer::Numbered;
 use lexer::reading::{Reading, Settings};
 use notation::parse;
-use notation::stdio::{print, print_number, print_row, read};
+use notation::stdio::{print, print_ended, print_number, read};
 use reading::counts::Counts;
 use reading::one::read_token;
 use reading::place::place_of;
@@ -146,12 +146,27 @@ fn room_in(line: &[u8]) -> Room {
     }
 }
 
+// A line: a word with the blank after it, and numbers. Of these there are many, so that each goes out with the byte after it.
+fn print_row(word: &[u8], row: &[i64]) {
+    print(word);
+    if let [front @ .., last] = row {
+        for n in front {
+            print_ended(*n, b' ');
+        }
+        print_ended(*last, b'\n');
+    }
+}
+
 fn print_refusal(r: Refusal) {
     let offset = match r {
         Refusal::NotUtf8(at) => at,
         _ => 0,
     };
-    print_row(b"refused", &[usize::from(r.number()), offset]);
+    print(b"refused ");
+    print_number(r.number());
+    print(b" ");
+    print_number(offset);
+    print(b"\n");
 }
 
 // Prints these many tokens, string bytes and reports.
@@ -159,24 +174,29 @@ fn print_counts(tokens: &[i64], strings: &[u8], reports: &[i64], counts: Counts)
     requires { (counts.tokens * record_width ≤ length tokens.now) × (counts.strings ≤ length strings.now) × (counts.reports * report_width ≤ length reports.now) }
 {
     for record in tokens[..counts.tokens * RECORD_WIDTH].chunks_exact(RECORD_WIDTH) {
-        print_row(b"token", record);
+        print_row(b"token ", record);
     }
     print(b"strings ");
     escaped::print_bytes(&strings[..counts.strings]);
     print(b"\n");
     for report in reports[..counts.reports * REPORT_WIDTH].chunks_exact(REPORT_WIDTH) {
-        print_row(b"report", report);
+        print_row(b"report ", report);
     }
 }
 
 fn print_place(place: Place) {
-    print_row(b"place", &[place.offset, place.line, place.column]);
+    print(b"place ");
+    print_number(place.offset);
+    print(b" ");
+    print_number(place.line);
+    print(b" ");
+    print_number(place.column);
+    print(b"\n");
 }
 
 fn print_date(seconds: i64, nanos: u32) {
     print(b"date ");
-    print_number(seconds);
-    print(b" ");
+    print_ended(seconds, b' ');
     print_number(nanos);
     print(b"\n");
 }

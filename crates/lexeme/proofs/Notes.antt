@@ -8,6 +8,7 @@ use lib.ListN.{length}
 use lib.IntN.{ℤ}
 use Rattle.limits.specs.Limits.{max_message_size}
 use Rattle.token.specs.Place.{place_at}
+use Rattle.token.specs.Reason.{reason_number}
 use Rattle.token.specs.Layout.{report_width, report_numbers}
 use Rattle.token.specs.Helpers.{ReportFits}
 use Rattle.token.specs.declared.place.Place.{Place}
@@ -37,9 +38,9 @@ module _ (text : List ℕ) (a : ℕ) where
       ∙ sym (append_assoc (report_numbers (report_of text a m)) (notes_numbers text a ms) (notes_numbers text a ns))
 
 -- a report at a place of a text that is read has small numbers
-pub report_fits : (text : List ℕ) (i : ℕ) (p : Place) (reason : Reason) (detail : ℕ) → p ≡ place_at text i → i ≤ length text → length text ≤ max_message_size
-    → detail ≤ 255 → ReportFits (report_at p reason detail)
-report_fits text i p reason detail e h k d =
+pub report_fits : (text : List ℕ) (i : ℕ) (p : Place) (reason : Reason) (n detail : ℕ) → p ≡ place_at text i → i ≤ length text → length text ≤ max_message_size
+    → n ≡ reason_number reason → detail ≤ 255 → ReportFits (report_at p n detail)
+report_fits text i p reason n detail e h k v d =
     let m : Moved _ (place_at text i) i = place_moved text i h in
     let r = reason_le reason in
     rw e (record { reason = omega arith; detail = omega arith; offset = omega arith; line = omega arith; column = omega arith })

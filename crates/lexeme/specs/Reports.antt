@@ -10,9 +10,9 @@ use Rattle.lexeme.specs.Lexeme.{Note}
 -- Types that other files explain: `Place` in token/specs/Place.antt; `Report` in token/specs/Layout.antt; `Reason` in token/specs/Reason.antt.
 
 -- a report that stands at a place
-abbrev pub report_at : Place → Reason → ℕ → Report
-report_at p reason detail = record { reason = reason_number reason; detail = detail; offset = p.offset; line = p.line; column = p.column }
+abbrev pub report_at : Place → ℕ → ℕ → Report
+report_at p reason detail = record { reason = reason; detail = detail; offset = p.offset; line = p.line; column = p.column }
 
 -- the report of a token that starts at the offset a of the text: "a report [stands] at its offset"
 unfoldable pub report_of : List ℕ → ℕ → Note → Report
-report_of text a n = report_at (place_at text (a + n.offset)) n.reason n.detail
+report_of text a n = report_at (place_at text (a + n.offset)) (reason_number n.reason) n.detail

@@ -120,13 +120,13 @@ impl Lexeme {
     }
 }
 
-// Stores a report that stands at a place.
-pub fn put_report(p: Place, reason: Reason, detail: usize, out: &mut [i64], at: usize)
+// Stores a report that stands at a place. It takes any number of a reason that fits, as a report does.
+pub fn put_report(p: Place, reason: usize, detail: usize, out: &mut [i64], at: usize)
     requires { (at + report_width ≤ length out.old) × ReportFits (report_at p reason detail) }
     ensures { out.new ≡ sets out.old at (report_numbers (report_at p reason detail)) }
 {
     let report = Report {
-        reason: reason.number(),
+        reason,
         detail,
         offset: p.offset,
         line: p.line,

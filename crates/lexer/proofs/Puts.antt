@@ -16,6 +16,7 @@ use Rattle.base.specs.Bytes.{byte}
 use Rattle.base.proofs.Reaches.{rest_is}
 use Rattle.base.proofs.Tests.{and_left, and_right, by_cases, true_false}
 use Rattle.std.specs.Prelude.{Option, Some, None}
+use Rattle.token.specs.Reason.{reason_number}
 use Rattle.token.specs.Helpers.{ReportFits}
 use Rattle.token.specs.Layout.{report_width, report_numbers}
 use Rattle.token.specs.declared.reason.Reason.{Reason}
@@ -188,17 +189,17 @@ module _ {r : Reading} {limit : ℕ} {text : List ℕ} {p : Place} {room at : �
 
   -- one report at the token's start
   module _ {k : Reason} (e : Some k ≡ start_reason limit (take (length text - p.offset) rest)) where
-    pub one_fits : (at + report_width ≤ room) × ReportFits (report_at p k 0)
-    one_fits =
+    pub one_fits : (n : ℕ) → n ≡ reason_number k → (at + report_width ≤ room) × ReportFits (report_at p n 0)
+    one_fits n v =
         let w = q.walkable in (
           omega (arith, q.fits, notes_length text p.offset (notes_in r limit rest), ap length (said_here e)),
-          report_fits text p.offset p k 0 w.true_place w.inside w.short (omega arith),
+          report_fits text p.offset p k n 0 w.true_place w.inside w.short v (omega arith),
         )
 
-    pub one_numbers : notes_numbers text p.offset (notes_in r limit rest) ≡ report_numbers (report_at p k 0)
+    pub one_numbers : (n : ℕ) → n ≡ reason_number k → notes_numbers text p.offset (notes_in r limit rest) ≡ report_numbers (report_at p n 0)
     unfolding notes_numbers report_of
-    one_numbers =
-        rw (said_here e, add-zero p.offset) (ap (λ (x : Place). report_numbers (report_at x k 0)) (sym q.walkable.true_place))
+    one_numbers n v =
+        rw (said_here e, add-zero p.offset, v) (ap (λ (x : Place). report_numbers (report_at x (reason_number k) 0)) (sym q.walkable.true_place))
 
   -- or those of a string of one line
   module _ (e : None ≡ start_reason limit (take (length text - p.offset) rest)) where

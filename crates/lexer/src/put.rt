@@ -47,7 +47,7 @@ pub fn put_reports(text: &[u8], start: Place, how: Settings, out: &mut [i64], at
     ensures { out.new ≡ sets out.old at (notes_numbers text.now start.offset (notes_in how.mode how.limit (drop start.offset text.now))) }
 {
     match start_reason(&text[start.offset..], how.limit) {
-        Some(reason) => put_report(start, reason, 0, out, at),
+        Some(reason) => put_report(start, reason.number(), 0, out, at),
         None => put_string_notes(text, start, Mode::from(how.mode), out, at),
     }
 }

@@ -1,10 +1,11 @@
 -- For `text` and `write_number`: the library's text of a number is `number_text`, by the library's steps over the digits; and bytes copied to a part of
 -- a buffer, with one more after them, are stored there.
-use Rattle.std.proofs.Common.{◌≡◌, ℕ, zero, suc, ◌+◌, ◌*◌, ◌/◌, ◌%◌, ◌^◌, ◌<◌, ◌≤◌, List, [], ◌∷◌, ◌++◌, length, take, drop, ℤ, pos, negsuc, FitsSigned, w64, append_assoc, sym, ap, arith}
+use Rattle.std.proofs.Common.{◌≡◌, ℕ, zero, suc, ◌+◌, ◌*◌, ◌/◌, ◌%◌, ◌^◌, ◌<◌, ◌≤◌, List, [], ◌∷◌, ◌++◌, length, length-append, take, drop, ℤ, pos, negsuc, FitsSigned, w64, append_assoc, sym, ap, arith}
 use native.Mathlib.Nat.{div-lt_iff_lt-mul, pow-suc}
 use borrow.Author.Tests.{eq-eqb, ne_eqb}
 use borrow.Rule.Slice.PartMut.{put_mid}
 use Rattle.std.proofs.Math.ListN.{set}
+use Rattle.std.proofs.Math.Seq.{take-append_seam}
 use Rattle.std.proofs.lemmas.List.{drop-drop}
 use Rattle.std.proofs.lemmas.List.Edits.{sets, sets-eq}
 use Rattle.std.specs.Fmt.{decimal, signed_decimal}
@@ -44,3 +45,12 @@ pub copied : (xs : List ℕ) (a b : ℕ) {ys t : List ℕ} {k : ℕ} → ys ≡ 
 copied xs a b {ys} {t} {k} q e h =
     let p : put_mid a k xs ys ≡ sets xs a t = rw (q, e, sets-eq t xs a h, drop-drop) (sym (append_assoc (take a xs) t (drop (a + length t) xs))) in
     rw p (sym (sets_append xs a t (b ∷ [])))
+
+-- the same at the front of a buffer, and what is taken of it
+pub taken : (xs : List ℕ) (b k : ℕ) {ys t : List ℕ} → ys ≡ t → k ≡ length t → length t + 1 ≤ length xs
+    → take (length t + 1) (set (put_mid 0 k xs ys) (length t) b) ≡ t ++ (b ∷ [])
+taken xs b k {t = t} q e h =
+    let n : length t + 1 ≡ length (t ++ (b ∷ [])) = omega (arith, length-append t (b ∷ [])) in
+    let z : 0 + length t ≡ length t = omega arith in
+    rw (rw z at (copied xs 0 b q e (omega arith)), n, sets-eq (t ++ (b ∷ [])) xs 0 (omega arith))
+    (take-append_seam (t ++ (b ∷ [])) (drop (0 + length (t ++ (b ∷ []))) xs))

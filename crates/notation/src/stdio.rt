@@ -1,5 +1,5 @@
 // Standard input and standard output.
-ghost use Rattle.std.specs.Prelude.{◌≤◌, length};
+ghost use Rattle.std.specs.Prelude.{◌≡◌, [], ◌∷◌, ◌++◌, ◌≤◌, length};
 
 use itoa::{Buffer, Integer};
 
@@ -24,6 +24,27 @@ pub fn print(s: &[u8]) {
 pub fn print_number<I: Integer>(n: I) {
     let mut buffer = Buffer::new();
     print(buffer.format(n).as_bytes());
+}
+
+// The longest text of a number, with a byte after it.
+const ENDED: usize = 41;
+
+// The text of a number and the byte after it, in a lent buffer.
+fn ended<I: Integer>(n: I, after: u8, out: &mut [u8; ENDED]) -> &[u8]
+    ensures { result.now ≡ I.text n ++ (after ∷ []) }
+{
+    let mut buffer = Buffer::new();
+    let digits = buffer.format(n).as_bytes();
+    let end = digits.len();
+    out[..end].copy_from_slice(digits);
+    out[end] = after;
+    &out[..end + 1]
+}
+
+// Prints a number and the byte after it by one call, since each call is one of the system.
+pub fn print_ended<I: Integer>(n: I, after: u8) {
+    let mut out = [0; ENDED];
+    print(ended(n, after, &mut out));
 }
 
 // Prints a byte as two hexadecimal digits.

@@ -2,13 +2,15 @@
 use mathlib.Core.Path.{◌≡◌, sym, ap}
 use mathlib.Core.Bool.{true, false}
 use mathlib.Core.List.{List, [], ◌∷◌}
-use Prim.Native.Nat.{ℕ}
+use Prim.Native.Nat.{ℕ, ◌<◌}
 use native.Mathlib.Omega.{arith}
 use lib.IntN.{ℤ}
 use lib.ListN.{length}
+use borrow.Author.Tests.{lt-ltb}
 use Rattle.std.specs.Prelude.{Ok, Err}
 use Rattle.base.specs.Bytes.{AreBytes}
 use Rattle.token.specs.Helpers.{Walkable}
+use Rattle.token.specs.Layout.{record_width}
 use Rattle.token.specs.declared.place.Place.{Place}
 use Rattle.token.proofs.Places.{to_place}
 use Rattle.lexer.specs.Token.{next_token, string_size}
@@ -22,7 +24,7 @@ use Rattle.reading.specs.Passes.{Few, Room, AllStored, StoredIn, TokenRoom, Toke
 use Rattle.reading.specs.declared.counts.Counts.{Counts}
 use Rattle.reading.specs.declared.put.Buffers.{Buffers}
 use Rattle.reading.specs.declared.refusal.Refusal.{Refusal}
-use Rattle.reading.specs.declared.refusal.Refusal.TheVariants.{NoPlace}
+use Rattle.reading.specs.declared.refusal.Refusal.TheVariants.{NoPlace, TokensShort}
 use Rattle.reading.specs.declared.one.OneToken.{OneToken}
 use Rattle.reading.proofs.NextToken.{Read}
 use Rattle.reading.proofs.Places.{place_is}
@@ -80,6 +82,11 @@ module _ {m : Reading} {limit : ℕ} {text : List ℕ} {p : Place} {T : List ℤ
       → room_of (counts_of (one_laid m limit text p.offset)) (length T) (length S) (length R) ≡ Err x → ReadsToken m limit text p T S R (Err x) T S R
   unfolding read_token_answer
   short j f {x} s = refused x (rw (j, f, s))
+
+  -- one record has no room, before it is known which
+  pub no_record : judge_of text ≡ Ok tt → is_place text p ≡ true → length T < record_width → ReadsToken m limit text p T S R (Err TokensShort) T S R
+  unfolding room_of
+  no_record j f h = short j f (rw (records_length 0 (next_token m limit text p.offset ∷ []), lt-ltb _ _ h))
 
 -- ---- the accepted answer
 

@@ -11,6 +11,7 @@ use crate::refusal::Refusal;
 use lexer::cursor::Cursor;
 use lexer::next::string_size;
 use lexer::reading::Settings;
+use token::layout::RECORD_WIDTH;
 use token::place::{Place, walk};
 
 // How many string bytes and reports one token has, and the place at its end.
@@ -48,6 +49,10 @@ pub fn read_token(
     let judged = Judged { text };
     if !judged.is_place(place) {
         return Err(Refusal::NoPlace);
+    }
+    // Check 4 comes before the token is read, which may be long: a slice that holds no record needs none.
+    if tokens.len() < RECORD_WIDTH {
+        return Err(Refusal::TokensShort);
     }
     let here = Cursor { text, place };
     let t = here.next_token(how);

@@ -1,6 +1,7 @@
 // What one token lays into the three buffers.
 ghost use Rattle.std.specs.Prelude.{◌≡◌, length, drop};
 ghost use Rattle.std.proofs.lemmas.List.Edits.{sets};
+ghost use Rattle.token.specs.Kind.{kind_number};
 ghost use Rattle.token.specs.Layout.{record_numbers};
 ghost use Rattle.lexeme.specs.Helpers.{notes_numbers};
 ghost use Rattle.lexer.specs.Reading.{string_in, notes_in};
@@ -17,6 +18,14 @@ use token::layout::{RECORD_WIDTH, REPORT_WIDTH, Record};
 use token::place::Place;
 use token::reason::number_of;
 
+// The number of a token's kind.
+#[inline(always)]
+fn kind_number(t: Token) -> usize
+    ensures { result ≡ kind_number t.kind }
+{
+    t.kind.number()
+}
+
 // Stores the record of a token whose string starts at `value_at`: there is a String's value, any other's is in the text. The buffers' parts are filled one
 // behind the other, so each of these functions gets the whole buffer and where its part begins, as `base::store` does.
 #[inline(always)]
@@ -25,7 +34,7 @@ fn put_record(t: Token, value_at: usize, out: &mut [i64], i: usize)
     ensures { out.new ≡ sets out.old i (record_numbers (record_of value_at t)) }
 {
     let record = Record {
-        kind: t.kind.number(),
+        kind: kind_number(t),
         reason: number_of(t.reason),
         detail: t.detail,
         start: t.start.offset,

@@ -3,7 +3,7 @@ ghost use Rattle.std.specs.Prelude.{◌≡◌};
 ghost use Rattle.rfc3339.specs.Instant.{date_of};
 ghost use Rattle.rfc3339.specs.Helpers.{SecondsFit, unix_seconds};
 
-use crate::rules::{FullTime, full_date};
+use crate::rules::{FullTime, full_date, partial_time};
 use base::peek;
 
 // A date-time: the whole seconds from 1970-01-01T00:00:00Z, rounded down, and the nanoseconds after them.
@@ -34,8 +34,8 @@ pub fn parse(run: &[u8]) -> Option<Instant>
     if peek(run, 10) != b'T' {
         return None;
     }
+    let time = partial_time(run)?;
     let full_time = FullTime::new(run);
-    let time = full_time.partial_time()?;
     let offset = full_time.time_offset()?;
     Some(Instant {
         seconds: unix_seconds(days * 86400 + time, offset),

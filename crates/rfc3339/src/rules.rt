@@ -78,6 +78,22 @@ fn hour_end(s: &[u8]) -> usize
     12
 }
 
+// The seconds of the time of day. Not of a `FullTime`, whose making passes all digits of a fraction: a run without a time of day is refused before that.
+#[tactic(auto, using(crate::proofs::Steps::time_steps, crate::proofs::Places::hour_end_le))]
+pub fn partial_time(s: &[u8]) -> Option<usize>
+    ensures seconds { result ≡ partial_time s.now }
+    ensures at_most { IfSome result (λ n. n ≤ 86399) }
+{
+    let h = hour_end(s);
+    let hour = hour(s)?;
+    if (peek(s, h) != b':') | (peek(s, h + 3) != b':') {
+        return None;
+    }
+    let minute = pair(peek(s, h + 1), peek(s, h + 2), 0, 59)?;
+    let second = pair(peek(s, h + 4), peek(s, h + 5), 0, 59)?;
+    Some(hour * 3600 + minute * 60 + second)
+}
+
 // Where the fraction of the second ends: after a mark and all the digits there, or at once.
 #[tactic(auto, using(crate::proofs::Places::hour_end_le), unfolding(crate::specs::Grammar::secfrac_end, crate::specs::Grammar::has_secfrac))]
 fn fraction_end(s: &[u8]) -> usize
@@ -114,23 +130,6 @@ impl<'a> FullTime<'a> {
             after_hour: hour_end(run),
             after_fraction: fraction_end(run),
         }
-    }
-
-    // The seconds of the time of day.
-    #[tactic(auto, using(crate::proofs::Steps::time_steps))]
-    pub fn partial_time(&self) -> Option<usize>
-        ensures seconds { result ≡ partial_time self.now.run.now }
-        ensures at_most { IfSome result (λ n. n ≤ 86399) }
-    {
-        let s = self.run;
-        let h = self.after_hour;
-        let hour = hour(s)?;
-        if (peek(s, h) != b':') | (peek(s, h + 3) != b':') {
-            return None;
-        }
-        let minute = pair(peek(s, h + 1), peek(s, h + 2), 0, 59)?;
-        let second = pair(peek(s, h + 4), peek(s, h + 5), 0, 59)?;
-        Some(hour * 3600 + minute * 60 + second)
     }
 
     // The nanoseconds of the fraction: its first nine digits, and zeros where there are fewer.

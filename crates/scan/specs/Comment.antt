@@ -11,7 +11,7 @@ use Rattle.lexeme.specs.declared.Mode.{Mode}
 use Rattle.lexeme.specs.declared.Mode.TheVariants.{Strict, Tolerant}
 use Rattle.scan.specs.Run.{in_line, in_body}
 
--- Types that other files explain: `TokenKind` in token/specs/Kind.antt; `Lexeme`, `Mode` in lexeme/specs/Lexeme.antt; `Run` in Run.antt.
+-- Types that other files explain: `TokenKind` in token/specs/Kind.antt; `Lexeme`, `Mode` in lexeme/specs/Lexeme.antt.
 
 -- `lex_line_comment`: `#` or `//` to the end of the line
 unfoldable pub lex_line_comment : List ℕ → Lexeme

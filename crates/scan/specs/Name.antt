@@ -11,7 +11,7 @@ use Rattle.lexeme.specs.Lexeme.{whole, extent, illegal}
 use Rattle.lexeme.specs.declared.Lexeme.{Lexeme}
 use Rattle.scan.specs.Run.{in_name}
 
--- Types that other files explain: `TokenKind` in token/specs/Kind.antt; `Lexeme` in lexeme/specs/Lexeme.antt; `Run` in Run.antt.
+-- Types that other files explain: `TokenKind` in token/specs/Kind.antt; `Lexeme` in lexeme/specs/Lexeme.antt.
 
 -- `true`, `false`, `null`
 abbrev pub true_word : List ℕ

@@ -17,7 +17,7 @@ use Rattle.lexeme.specs.declared.Lexeme.{Lexeme}
 use Rattle.scan.specs.Run.{in_stamp, unit_piece}
 
 -- Types that other files explain: `Instant` in rfc3339/specs/Instant.antt; `TokenKind` in
--- token/specs/Kind.antt; `Lexeme` in lexeme/specs/Lexeme.antt; `Run` in Run.antt.
+-- token/specs/Kind.antt; `Lexeme` in lexeme/specs/Lexeme.antt.
 
 -- `lex_precision`: a number that ends at e; its precision is `p` and one or more digits, or nothing
 unfoldable pub lex_precision : TokenKind → List ℕ → ℕ → Lexeme

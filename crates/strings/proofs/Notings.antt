@@ -16,6 +16,7 @@ use Rattle.base.proofs.Reaches.{rest_is}
 use Rattle.base.specs.Bytes.{byte}
 use Rattle.utf8.specs.Character.{octets_of}
 use Rattle.utf8.specs.declared.character.Encoded.{Encoded}
+use Rattle.token.specs.Reason.{reason_number}
 use Rattle.token.specs.Place.{place_at}
 use Rattle.token.specs.Helpers.{Walkable, ReportFits}
 use Rattle.token.specs.declared.reason.Reason.{Reason}
@@ -77,7 +78,7 @@ notes_left {s} {ns = ns} {j = j} g =
 
 -- the report of an ending, as `end_report` finds it
 ending_notes : (text : List ℕ) (a : ℕ) (reason : Reason)
-    → notes_numbers text a (note_at_start reason ∷ []) ≡ report_numbers (report_at (place_at text a) reason 0)
+    → notes_numbers text a (note_at_start reason ∷ []) ≡ report_numbers (report_at (place_at text a) (reason_number reason) 0)
 unfolding notes_numbers report_of
 ending_notes text a reason = rw (add-zero a)
 
@@ -106,22 +107,22 @@ module _ (text : List ℕ) (start : Place) (out₀ : List ℤ) (at : ℕ) (s : L
       noting_none n = storing_end ran.store (ap (notes_numbers text start.offset) (last_left ∙ n))
 
       module _ {reason : Reason} (n : end_notes x ≡ note_at_start reason ∷ []) where
-        end_numbers : left text start s e ≡ report_numbers (report_at start reason 0)
+        end_numbers : left text start s e ≡ report_numbers (report_at start (reason_number reason) 0)
         end_numbers =
             ap (notes_numbers text start.offset) (last_left ∙ n) ∙ ending_notes text start.offset reason
-            ∙ ap (λ (q : Place). report_numbers (report_at q reason 0)) (sym ran.fit.true_place)
+            ∙ ap (λ (q : Place). report_numbers (report_at q (reason_number reason) 0)) (sym ran.fit.true_place)
 
         pub end_room : p + report_width ≤ length out
         end_room = omega (arith, ap length end_numbers, ran.store.room, ran.store.same)
 
-        pub end_fits : ReportFits (report_at start reason 0)
-        end_fits =
+        pub end_fits : (k : ℕ) → k ≡ reason_number reason → ReportFits (report_at start k 0)
+        end_fits k v =
             let f = ran.fit in
-            report_fits text start.offset start reason 0 f.true_place (omega (arith, f.inside)) f.short (omega arith)
+            report_fits text start.offset start reason k 0 f.true_place (omega (arith, f.inside)) f.short v (omega arith)
 
-        pub noting_end : (o : List ℤ) → o ≡ sets out p (report_numbers (report_at start reason 0))
+        pub noting_end : (k : ℕ) (o : List ℤ) → k ≡ reason_number reason → o ≡ sets out p (report_numbers (report_at start k 0))
             → o ≡ sets out₀ at (string_numbers Tolerant text start.offset)
-        noting_end o eo = eo ∙ sym (ran.store.is ∙ ap (sets out p) end_numbers)
+        noting_end k o v eo = rw v at eo ∙ sym (ran.store.is ∙ ap (sets out p) end_numbers)
 
     module _ {enc : Encoded} {used : ℕ} {found : Option Reason} (h : q ≡ Go enc used found) where
       w : Went (drop e s) enc used found
@@ -156,7 +157,7 @@ module _ (text : List ℕ) (start : Place) (out₀ : List ℤ) (at : ℕ) (s : L
         note_walks = record { true_place = ran.known; forward = omega (arith, ran.behind); inside = to_in; short = ran.fit.short }
 
         numbers : List ℤ
-        numbers = report_numbers (report_at (place_at text (start.offset + e + 1)) reason (letter_detail reason (byte enc.bytes 1)))
+        numbers = report_numbers (report_at (place_at text (start.offset + e + 1)) (reason_number reason) (letter_detail reason (byte enc.bytes 1)))
 
         step_numbers : left text start s e ≡ numbers ++ left text start s (e + used)
         unfolding notes_numbers report_of step_notes numbers
@@ -169,15 +170,15 @@ module _ (text : List ℕ) (start : Place) (out₀ : List ℤ) (at : ℕ) (s : L
         pub note_fits : length out₀ < 2 ^ 64 → Fits w64 (p + report_width)
         note_fits l = omega (arith, note_room, ran.store.same)
 
-        pub note_report : (place₂ : Place) (detail : ℕ) → place₂ ≡ place_at text (start.offset + e + 1) → detail ≤ 255
-            → ReportFits (report_at place₂ reason detail)
-        note_report place₂ detail ep h = report_fits text (start.offset + e + 1) place₂ reason detail ep to_in ran.fit.short h
+        pub note_report : (place₂ : Place) (k detail : ℕ) → place₂ ≡ place_at text (start.offset + e + 1) → k ≡ reason_number reason → detail ≤ 255
+            → ReportFits (report_at place₂ k detail)
+        note_report place₂ k detail ep v h = report_fits text (start.offset + e + 1) place₂ reason k detail ep to_in ran.fit.short v h
 
-        pub noting_note : (place₂ : Place) (detail : ℕ) (o : List ℤ) → place₂ ≡ place_at text (start.offset + e + 1)
-            → detail ≡ letter_detail reason (byte enc.bytes 1) → o ≡ sets out p (report_numbers (report_at place₂ reason detail))
+        pub noting_note : (place₂ : Place) (k detail : ℕ) (o : List ℤ) → place₂ ≡ place_at text (start.offset + e + 1) → k ≡ reason_number reason
+            → detail ≡ letter_detail reason (byte enc.bytes 1) → o ≡ sets out p (report_numbers (report_at place₂ k detail))
             → Noting text start out₀ at s o (e + used) (p + report_width) place₂
         unfolding numbers
-        noting_note place₂ detail o ep ed eo =
+        noting_note place₂ k detail o ep v ed eo =
             let at-to : place₂.offset ≡ start.offset + e + 1 = ap (λ (x : Place). x.offset) ep ∙ place_offset text (start.offset + e + 1) to_in in
             record {
               fit = ran.fit;
@@ -185,5 +186,5 @@ module _ (text : List ℕ) (start : Place) (out₀ : List ℤ) (at : ℕ) (s : L
               inside = gives.inside;
               known = ep ∙ ap (place_at text) (sym at-to);
               behind = omega (arith, w.taken.some);
-              store = storing_more ran.store numbers (left text start s (e + used)) step_numbers refl o (rw (← ep, ← ed) eo);
+              store = storing_more ran.store numbers (left text start s (e + used)) step_numbers refl o (rw (← ep, ← v, ← ed) eo);
             }

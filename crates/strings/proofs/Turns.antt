@@ -14,7 +14,7 @@ use lib.ListN.{length, drop, length-append}
 use lib.Seq.{drop-cons}
 use Rattle.base.specs.Bytes.{byte}
 use Rattle.base.proofs.Stores.{empty}
-use Rattle.base.proofs.Tests.{by_cases, in_text}
+use Rattle.base.proofs.Tests.{by_cases, in_text, one_or_zero}
 use Rattle.utf8.specs.Grammar.{Octets}
 use Rattle.utf8.specs.State.{is_between, push_all}
 use Rattle.utf8.specs.declared.state.State.{State}
@@ -48,12 +48,8 @@ unfolding step_notes
 notes_count None letter at = refl
 notes_count (Some r) letter at = refl
 
-count_le : (x : Bool) → bool_byte x ≤ 1
-count_le true = lit≤ tt
-count_le false = lit≤ tt
-
 pub notes_le : (reason : Option Reason) (letter at : ℕ) → length (step_notes reason letter at) ≤ 1
-notes_le reason letter at = rw (notes_count reason letter at) (count_le (is_some reason))
+notes_le reason letter at = rw (notes_count reason letter at) (one_or_zero (is_some reason))
 
 measured_prepend : (c r : ℕ) (t : State) (bs : List ℕ) (ns : List Note) (d : Decoded)
     → measured c r t (prepend bs ns d) ≡ measured (c + length bs) (r + length ns) (push_all t bs) d
@@ -135,7 +131,7 @@ module _ {m : Mode} {s : List ℕ} {i count reports : ℕ} {state : State} (u : 
         record {
           inside = gives.inside;
           few_bytes = omega (arith, parted.few_bytes);
-          few_reports = omega (arith, parted.few_reports, count_le b);
+          few_reports = omega (arith, parted.few_reports, one_or_zero b);
           is =
               parted.is
               ∙ ap (measured (count + size) reports state) gives.is
@@ -147,7 +143,7 @@ module _ {m : Mode} {s : List ℕ} {i count reports : ℕ} {state : State} (u : 
     step_fits l = let f = (went m s e is h).taken in omega (arith, parted.few_bytes, gives.inside)
 
     pub reports_fit : (b : Bool) (k : ℕ) → k ≡ bool_byte b → length s < 2 ^ 64 → Fits w64 (reports + k)
-    reports_fit b k ek l = let f = (went m s e is h).taken in omega (arith, parted.few_reports, gives.inside, count_le b)
+    reports_fit b k ek l = let f = (went m s e is h).taken in omega (arith, parted.few_reports, gives.inside, one_or_zero b)
 
     pub used_fits : length s < 2 ^ 64 → Fits w64 (e + used)
     used_fits l = omega (arith, gives.inside)

@@ -61,12 +61,12 @@ fn put_tolerant_notes(text: &[u8], start: Place, out: &mut [i64], at: usize)
                     reason,
                     letter: encoded.bytes[1],
                 };
-                put_report(place, reason, escape.detail(), out, p);
+                put_report(place, reason.number(), escape.detail(), out, p);
                 p += REPORT_WIDTH;
             }
             Step::Stop { end, stop: _ } => {
                 if let Some(reason) = end_report(end) {
-                    put_report(start, reason, 0, out, p);
+                    put_report(start, reason.number(), 0, out, p);
                 }
                 return;
             }

@@ -1,157 +1,133 @@
--- For the dedent: the lines of a text one by one, each without the indent, make the text that the definition makes of all of them. By induction on the
+-- For the dedent: the text without the indent, byte by byte as the code goes, is the text that the definition makes of its lines. By induction on the
 -- text and on its lines. Assumes nothing.
 use mathlib.Core.Path.{◌≡◌, refl, ap, sym, ◌∙◌}
-use mathlib.Core.Bool.{Bool, true, false, ◌&&◌, cond}
-use mathlib.Core.List.{List, [], ◌∷◌, ◌++◌, map, append-nil}
+use mathlib.Core.Bool.{Bool, true, false, ◌&&◌}
+use mathlib.Core.List.{List, [], ◌∷◌, ◌++◌, map}
 use mathlib.Core.Logic.{⊎_elim}
 use Prim.Native.Nat.{ℕ, suc, ◌+◌, ◌-◌, ◌≤◌, ◌<◌}
-use denote.Ref.{Bor}
-use denote.Param.Members.{Mut}
-use Rattle.std.specs.Fn.{ComputesKey, Called}
-use Rattle.std.proofs.lemmas.Fn.{always_returns_same}
-use Rattle.std.specs.Prelude.{min, Option, None, Some, MatchOption}
-use Rattle.std.specs.Option.{unwrap_or}
-use Rattle.std.proofs.lemmas.Bool.{cases_lt}
+use native.Mathlib.Numerals.{add-one}
 use native.Mathlib.Omega.{arith}
 use borrow.Author.Tests.{eqb-true, eq-eqb, ne_eqb}
 use lib.Dec.{eqb}
-use Rattle.std.proofs.lemmas.List.{drop-append-le, get_or-take}
-use Rattle.std.proofs.Common.{append_assoc}
-use lib.ListN.{length, drop, take, get_or, get_or-append, length-append, length-drop}
-use lib.Pointwise.{pointwise}
-use Rattle.std.specs.List.{slice_split, onto_first, IsFirstMatchOrLen}
+use lib.ListN.{length, drop, drop_of_length-le, take, length-append, length-drop}
 use Rattle.std.proofs.lemmas.List.Elements.{All-head, All-tail}
-use Rattle.std.proofs.lemmas.List.Splits.{slice_split_none, slice_split_at}
 use Rattle.base.specs.Choice.{pick}
-use lib.Seq.{take-suc, take_all, length-take-le}
+use lib.Seq.{drop-cons}
 use Rattle.base.specs.Bytes.{byte}
 use Rattle.base.proofs.Reaches.{rest_is}
 use Rattle.base.proofs.Stores.{empty}
 use Rattle.base.proofs.Tests.{and_right, pick_case, true_false}
 use Rattle.triple_strings.specs.Dedent.{first, others, join, join_rest, last_of, init_of, blank, prefix, strip, unlead, unindent, dedent}
-use Rattle.triple_strings.proofs.QuoteSearch.{turned}
-use Rattle.triple_strings.specs.Helpers.{lines, stripped, OneLine, LastLine}
+use Rattle.triple_strings.specs.Helpers.{lines, stripped, after, OneLine, LastLine}
 
 abbrev pub newline : ℕ → Bool
 newline b = eqb b 0x0A
 
 -- ---- the lines
 
-pub lines_split : (s : List ℕ) → lines s ≡ slice_split newline s
-unfolding lines first others
-lines_split [] = refl
-lines_split (x ∷ s) = rw (← lines_split s) (go (eqb x 0x0A))
-  where
-    go : (b : Bool) → pick b [] (x ∷ first s) ∷ (pick b (first s ∷ []) [] ++ others s) ≡ cond b ([] ∷ lines s) (onto_first x (lines s))
-    go true = refl
-    go false = refl
-
 lines_one : (s : List ℕ) → OneLine s → lines s ≡ s ∷ []
-lines_one s h = lines_split s ∙ slice_split_none newline s h
-
-lines_next : (x r : List ℕ) → OneLine x → lines (x ++ (0x0A ∷ r)) ≡ x ∷ lines r
-lines_next x r h = lines_split (x ++ (0x0A ∷ r)) ∙ slice_split_at newline x 0x0A r h refl ∙ rw (← lines_split r)
+unfolding lines first others
+lines_one [] h = refl
+lines_one (x ∷ s) h =
+    let e = lines_one s (All-tail (λ b. newline b ≡ false) x s h) in
+    rw (All-head (λ b. newline b ≡ false) x s h) cc
 
 -- ---- a line without the indent
-
--- the library's test of the front of a slice
-prefix_pointwise : (p l : List ℕ) → pointwise eqb (take (length p) l) p ≡ prefix p l
-unfolding prefix
-prefix_pointwise [] l = refl
-prefix_pointwise (a ∷ p) [] = refl
-prefix_pointwise (a ∷ p) (x ∷ l) = rw (turned x a, prefix_pointwise p l)
-
-prefix_newline : (p x : List ℕ) → OneLine p → prefix p (x ++ (0x0A ∷ [])) ≡ prefix p x
-unfolding prefix
-prefix_newline [] x h = refl
-prefix_newline (a ∷ p) [] h = rw (All-head (λ b. eqb b 0x0A ≡ false) a p h)
-prefix_newline (a ∷ p) (b ∷ x) h = ap (eqb a b &&◌) (prefix_newline p x (All-tail (λ b. eqb b 0x0A ≡ false) a p h))
-
-prefix_long : (p l : List ℕ) → prefix p l ≡ true → length p ≤ length l
-unfolding prefix
-prefix_long [] l h = omega arith
-prefix_long (a ∷ p) [] h = true_false false h refl
-prefix_long (a ∷ p) (x ∷ l) h = omega (arith, prefix_long p l (and_right (eqb a x) (prefix p l) h))
 
 strip_nil : (p : List ℕ) → strip p [] ≡ []
 unfolding strip prefix
 strip_nil [] = refl
 strip_nil (a ∷ p) = refl
 
-pub strip_is : (ind : List ℕ) (line : Bor (List ℕ)) (r : Option (Bor (List ℕ)))
-    → MatchOption r (pointwise eqb (take (length ind) line.now) ind ≡ false)
-    (λ x. (pointwise eqb (take (length ind) line.now) ind ≡ true) × (x.now ≡ drop (length ind) line.now) × (length x.now + length ind ≡ length line.now))
-    → (unwrap_or r line).now ≡ strip ind line.now
+at_index : (s : List ℕ) (k : ℕ) → k < length s → drop k s ≡ byte s k ∷ drop (k + 1) s
+at_index s k h = rw (add-one, drop-cons s k 0 h)
+
+-- of a line and its indent, r and what follows the first k bytes are left to compare
+abbrev pub Comparing : List ℕ → List ℕ → ℕ → List ℕ → Type 0
+Comparing ind line k r = strip ind line ≡ pick (prefix (drop k ind) r) (drop (length (drop k ind)) r) line
+
+pub comparing_first : (ind line : List ℕ) → Comparing ind line 0 line
 unfolding strip
-strip_is ind line None h = rw (← prefix_pointwise ind line.now, h)
-strip_is ind line (Some x) h = rw (← prefix_pointwise ind line.now, h.0) h.1
+comparing_first ind line = refl
+
+module _ (ind line : List ℕ) (k : ℕ) (r : List ℕ) (u : Comparing ind line k r) where
+  pub comparing_end : length ind ≤ k → r ≡ strip ind line
+  unfolding prefix
+  comparing_end h = sym (u ∙ rw (drop_of_length-le ind h))
+
+  module _ (h : k < length ind) where
+    pub comparing_short : length r < 1 → line ≡ strip ind line
+    unfolding prefix
+    comparing_short l = sym (u ∙ rw (at_index ind k h, empty r (omega arith)))
+
+    module _ (l : 1 ≤ length r) where
+      next : Comparing ind line k (byte r 0 ∷ drop 1 r)
+      next = rw (← at_index r 0 l) u
+
+      pub comparing_other : (byte r 0 ≡ byte ind k → ⊥) → line ≡ strip ind line
+      unfolding prefix
+      comparing_other e = sym (next ∙ rw (at_index ind k h, ne_eqb (byte ind k) (byte r 0) (λ q. e (sym q))))
+
+      pub comparing_on : byte r 0 ≡ byte ind k → Comparing ind line (k + 1) (take (length r - 1) (drop 1 r))
+      unfolding prefix
+      comparing_on e = next ∙ rw (at_index ind k h, rest_is r 1, eq-eqb (byte ind k) (byte r 0) (sym e))
+
+-- what `strip` needs at each turn and each return
+pub ruleset comparing = (comparing_first, comparing_end, comparing_short, comparing_other, comparing_on)
+
+-- the indent p stands in f, the first line of s, as it does in s, and the lines o after that stay
+abbrev InFirst : List ℕ → List ℕ → List ℕ → List (List ℕ) → Type 0
+InFirst p s f o =
+    (prefix p f ≡ prefix p s) × (prefix p s ≡ true → (drop (length p) f ≡ first (drop (length p) s)) × (o ≡ others (drop (length p) s)))
+
+-- since it has no newline
+in_first : (p s : List ℕ) → OneLine p → InFirst p s (first s) (others s)
+unfolding prefix first others
+in_first [] s h = (refl, λ _. (refl, refl))
+in_first (a ∷ p) [] h = (refl, λ e. true_false false e refl)
+in_first (a ∷ p) (x ∷ s) h = go (eqb x 0x0A) refl (in_first p s (All-tail (λ b. newline b ≡ false) a p h))
+  where
+    other : eqb x 0x0A ≡ true → eqb a x ≡ false
+    other e = rw (eqb-true x 0x0A e) (All-head (λ b. newline b ≡ false) a p h)
+
+    go : (b : Bool) → eqb x 0x0A ≡ b → InFirst p s (first s) (others s)
+        → InFirst (a ∷ p) (x ∷ s) (pick b [] (x ∷ first s)) (pick b (first s ∷ []) [] ++ others s)
+    go true e r = rw (other e) (refl, λ f. true_false false f refl)
+    go false e r = (ap (eqb a x &&◌) r.0, λ f. r.1 (and_right (eqb a x) (prefix p s) f))
+
+-- ---- the text without the indent, byte by byte
+
+-- what is left of it in the middle of a line
+unfoldable pub left : List ℕ → List ℕ → List ℕ
+left ind r = first r ++ join_rest (map (strip ind) (others r))
+
+pub left_end : (ind s : List ℕ) → length s < 1 → left ind s ≡ []
+unfolding left first others
+left_end ind s h = rw (empty s (omega arith)) refl
 
 module _ (ind : List ℕ) (one : OneLine ind) where
-  strip_newline : (x : List ℕ) → strip ind (x ++ (0x0A ∷ [])) ≡ strip ind x ++ (0x0A ∷ [])
-  unfolding strip
-  strip_newline x = rw (prefix_newline ind x one) (go (prefix ind x) refl)
+  pub left_first : (s : List ℕ) → left ind (strip ind s) ≡ stripped ind s
+  unfolding left stripped lines strip
+  left_first s = rw ((in_first ind s one).0) (go (prefix ind s) (in_first ind s one).1)
     where
-      go : (b : Bool) → prefix ind x ≡ b
-          → pick b (drop (length ind) (x ++ (0x0A ∷ []))) (x ++ (0x0A ∷ [])) ≡ pick b (drop (length ind) x) x ++ (0x0A ∷ [])
-      go true e = let l = prefix_long ind x e in rw drop-append-le
+      go : (b : Bool)
+          → (b ≡ true → (drop (length ind) (first s) ≡ first (drop (length ind) s)) × (others s ≡ others (drop (length ind) s)))
+          → first (pick b (drop (length ind) s) s) ++ join_rest (map (strip ind) (others (pick b (drop (length ind) s) s)))
+          ≡ pick b (drop (length ind) (first s)) (first s) ++ join_rest (map (strip ind) (others s))
+      go true e = rw ((e refl).0, (e refl).1) refl
       go false e = refl
 
-  -- ---- the text without the indent, line by line
-
-  rest_lines : (r : List ℕ) → join_rest (map (strip ind) (lines r)) ≡ 0x0A ∷ stripped ind r
-  unfolding stripped lines
-  rest_lines r = refl
-
-  pub stripped_next : (x r : List ℕ) → OneLine x → stripped ind (x ++ (0x0A ∷ r)) ≡ strip ind (x ++ (0x0A ∷ [])) ++ stripped ind r
-  unfolding stripped
-  stripped_next x r h = rw (lines_next x r h, strip_newline x, rest_lines r, append_assoc)
-
-  pub stripped_one : (x : List ℕ) → OneLine x → stripped ind x ≡ strip ind x
-  unfolding stripped
-  stripped_one x h = rw (lines_one x h, append-nil)
-
-  pub stripped_nil : stripped ind [] ≡ []
-  unfolding stripped lines first others
-  stripped_nil = rw (strip_nil ind)
-
-  -- what a step of `split_inclusive` takes off
-  pub stripped_step : (s x t : List ℕ) (i : ℕ) → s ≡ x ++ t → length x ≡ min (i + 1) (length s) → IsFirstMatchOrLen newline s i
-      → stripped ind s ≡ strip ind x ++ stripped ind t
-  stripped_step s x t i e l f = ⊎_elim ended rest (cases_lt i (length s))
+  left_cons : (x : ℕ) (t : List ℕ) → left ind (x ∷ t) ≡ x ∷ left ind (after ind x t)
+  unfolding left first others stripped lines after
+  left_cons x t = go (eqb x 0x0A) refl
     where
-      sum : length s ≡ length x + length t
-      sum = ap length e ∙ length-append x t
+      go : (b : Bool) → eqb x 0x0A ≡ b
+          → pick b [] (x ∷ first t) ++ join_rest (map (strip ind) (pick b (first t ∷ []) [] ++ others t)) ≡ x ∷ left ind (pick b (strip ind t) t)
+      go true e = rw (left_first t, eqb-true x 0x0A e) refl
+      go false e = refl
 
-      same : (k d : ℕ) → k < length x → get_or x k d ≡ get_or s k d
-      same k d h = rw (e, get_or-append)
-
-      ended : i < length s → stripped ind s ≡ strip ind x ++ stripped ind t
-      ended h =
-          let n : length x ≡ suc i = omega arith in
-          let last : get_or x i 0 ≡ 0x0A = same i 0 (omega arith) ∙ eqb-true (get_or s i 0) 0x0A (f.1 h 0) in
-          let whole : x ≡ take i x ++ (0x0A ∷ []) = sym (take_all (suc i) x (omega arith)) ∙ take-suc x i 0 (omega arith) ∙ rw last in
-          let clean : OneLine (take i x) = λ k d l.
-          let short : length (take i x) ≡ i = length-take-le i x (omega arith) in
-          let near : get_or (take i x) k d ≡ get_or s k d = get_or-take i x k d (omega arith) ∙ same k d (omega arith) in
-          rw near (f.0 k d (omega arith) (omega arith)) in
-          rw (e, whole, append_assoc) (stripped_next (take i x) t clean)
-
-      rest : length s ≤ i → stripped ind s ≡ strip ind x ++ stripped ind t
-      rest h =
-          let z : t ≡ [] = empty t (omega (arith, sum)) in
-          let clean : OneLine x = λ k d l. rw (same k d l) (f.0 k d (omega arith) (omega (arith, sum))) in
-          let whole : s ≡ x = rw (e, z, append-nil) in
-          rw (whole, z, stripped_nil, append-nil) (stripped_one x clean)
-
-  -- the same, of a call of `next` with a closure that tests for a newline
-  pub stripped_more : {F : Type 0} (g : Mut F (Bor ℕ × Unit {0}) Bool) (s x t : List ℕ) (f h : F)
-      → (s ≡ x ++ t)
-      × ((i : ℕ) × (length x ≡ min (i + 1) (length s)) × ((p : ℕ → Bool) → ComputesKey g p f → ComputesKey g p h × IsFirstMatchOrLen p s i))
-      × (0 < length s)
-      → ((a : Bor ℕ × Unit {0}) (r : Bool) (q : F) → Called g f a r q → (r ≡ newline a.0.now) × (q ≡ f))
-      → (kept : List ℕ) → kept ≡ strip ind x → stripped ind s ≡ kept ++ stripped ind t
-  stripped_more g s x t f h k tests kept e =
-      stripped_step s x t k.1.0 k.0 k.1.1 (k.1.2 newline (always_returns_same g (λ a r. r ≡ newline a.0.now) f tests)).1 ∙ rw e
+  pub left_more : (s : List ℕ) → 1 ≤ length s → left ind s ≡ byte s 0 ∷ left ind (after ind (byte s 0) (take (length s - 1) (drop 1 s)))
+  left_more s h = rw (rest_is s 1) (ap (left ind) (at_index s 0 h) ∙ left_cons (byte s 0) (drop 1 s))
 
 -- ---- the text is its lines
 
@@ -169,6 +145,13 @@ module _ (ind : List ℕ) where
   strip_le : (l : List ℕ) → length (strip ind l) ≤ length l
   unfolding strip
   strip_le l = pick_case (λ (r : List ℕ). length r ≤ length l) (prefix ind l) (λ _. omega (arith, length-drop (length ind) l)) (λ _. omega arith)
+
+  pub after_less : (s : List ℕ) → 1 ≤ length s → length (after ind (byte s 0) (take (length s - 1) (drop 1 s))) < length s
+  unfolding after
+  after_less s h =
+      let t = take (length s - 1) (drop 1 s) in
+      let l : length t < length s = omega (arith, ap length (rest_is s 1), length-drop 1 s) in
+      pick_case (λ (r : List ℕ). length r < length s) (eqb (byte s 0) 0x0A) (λ _. omega (arith, strip_le t)) (λ _. omega arith)
 
   rest_le : (ls : List (List ℕ)) → length (join_rest (map (strip ind) ls)) ≤ length (join_rest ls)
   rest_le [] = omega arith

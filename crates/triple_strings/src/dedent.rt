@@ -2,7 +2,7 @@
 ghost use Rattle.std.specs.Prelude.{◌≡◌, ◌≤◌, length};
 ghost use Rattle.std.proofs.lemmas.List.Edits.{sets};
 ghost use Rattle.triple_strings.specs.Dedent.{unlead, dedent};
-ghost use Rattle.triple_strings.specs.Helpers.{stripped, OneLine};
+ghost use Rattle.triple_strings.specs.Helpers.{stripped, after, OneLine};
 
 use crate::lines::{is_blank, split_last, strip};
 
@@ -42,6 +42,18 @@ impl<'a> Dedent<'a> {
         }
     }
 
+    // What is left after a byte: after a newline the indent goes.
+    #[inline(always)]
+    fn after(&self, byte: u8, tail: &'a [u8]) -> &'a [u8]
+        ensures { result.now ≡ after self.now.indent.now byte tail.now }
+    {
+        if byte == b'\n' {
+            strip(self.indent, tail)
+        } else {
+            tail
+        }
+    }
+
     // Not inlined: the tokens before it in the lexer would take more instructions.
     #[inline(never)]
     pub fn len(&self) -> usize
@@ -50,10 +62,11 @@ impl<'a> Dedent<'a> {
         if self.indent.is_empty() {
             return self.body.len();
         }
-        // No `sum` of a `map`, which asks that the sum fits before the first line is seen.
         let mut size = 0;
-        for line in self.body.split_inclusive(|b| *b == b'\n') {
-            size += strip(self.indent, line).len();
+        let mut rest = strip(self.indent, self.body);
+        while let [byte, tail @ ..] = rest {
+            size += 1;
+            rest = self.after(*byte, tail);
         }
         size
     }
@@ -68,12 +81,13 @@ impl<'a> Dedent<'a> {
             base::copy(out, 0, self.body);
             return;
         }
-        // An index: `copy` stores at one, and what is left of a lent slice would have to be lent anew for each line.
+        // Byte by byte: a `copy` of each line takes longer where lines are short.
         let mut end = 0;
-        for line in self.body.split_inclusive(|b| *b == b'\n') {
-            let kept = strip(self.indent, line);
-            base::copy(out, end, kept);
-            end += kept.len();
+        let mut rest = strip(self.indent, self.body);
+        while let [byte, tail @ ..] = rest {
+            out[end] = *byte;
+            end += 1;
+            rest = self.after(*byte, tail);
         }
     }
 }

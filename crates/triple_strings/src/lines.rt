@@ -32,9 +32,18 @@ pub fn split_last(t: &[u8]) -> (&[u8], &[u8])
     (&[], t)
 }
 
-// The line without the indent, where it has it.
+// The line without the indent, where it has it. Inlined, and by a loop: `strip_prefix` is a call, which takes longer than a short line.
+#[inline(always)]
+#[tactic(auto, using(crate::proofs::Stripping::comparing))]
 pub fn strip<'a>(indent: &[u8], line: &'a [u8]) -> &'a [u8]
     ensures { result.now ≡ strip indent.now line.now }
 {
-    line.strip_prefix(indent).unwrap_or(line)
+    let mut rest = line;
+    for a in indent {
+        match rest {
+            [b, tail @ ..] if b == a => rest = tail,
+            _ => return line,
+        }
+    }
+    rest
 }

@@ -17,7 +17,9 @@ impl Run for Ascii {
     }
 }
 
-// The end of the run of ASCII bytes from `at` on: by blocks as long as there are any, and in the window after them.
+// The end of the run of ASCII bytes from `at` on: by blocks as long as there are any, and in the window after them. Cold, so that it lies apart from the
+// loop over longer characters that calls it: inlined there, it costs each of those a jump more.
+#[cold]
 pub fn past_ascii(text: &[u8], at: usize) -> usize
     requires { at ≤ length text.now }
     ensures { result ≡ reach in_ascii text.now at }

@@ -3,4 +3,4 @@ use Rattle.base.proofs.Windows.{Searched}
 use Rattle.base.proofs.runs.window_count.Given as goal
 
 abbrev pub invariant-loop-j : goal.invariant-loop-j
-invariant-loop-j g l = Searched (g.R.Run.has l.run) l.s l.j l.m
+invariant-loop-j g l = Searched (g.R.Run.has l.run) l.s 64 l.j l.m

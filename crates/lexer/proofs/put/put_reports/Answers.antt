@@ -4,10 +4,10 @@ use Rattle.lexer.proofs.Puts.{one_fits, one_numbers, string_fits, string_said}
 use Rattle.lexer.proofs.put.put_reports.Goals as goal
 
 pub put_report-requires : goal.put_report-requires
-put_report-requires c = one_fits c.requires c.in-Some.ensures
+put_report-requires c = one_fits c.requires c.in-Some.ensures _ c.number.ensures
 
 pub returns-in-Some : goal.returns-in-Some
-returns-in-Some c = rw (one_numbers c.requires c.in-Some.ensures) c.put_report.ensures
+returns-in-Some c = rw (one_numbers c.requires c.in-Some.ensures _ c.number.ensures) c.put_report.ensures
 
 pub put_string_notes-requires : goal.put_string_notes-requires
 put_string_notes-requires c = rw c.from.ensures (string_fits c.requires c.in-None.ensures refl)

@@ -6,7 +6,7 @@ use Rattle.utf8.proofs.Valid.{octets_valid}
 use Rattle.reading.specs.Refusals.{judge_of}
 use Rattle.reading.specs.Answers.{is_place}
 use Rattle.reading.proofs.Refusals.{fitting, well_octets, refusal_is}
-use Rattle.reading.proofs.TokenAnswers.{walkable, few, counted, unfit, no_place, short, Passed, room, stored, done}
+use Rattle.reading.proofs.TokenAnswers.{walkable, few, counted, unfit, no_place, short, no_record, Passed, room, stored, done}
 use Rattle.reading.proofs.Rows.{held_by}
 use Rattle.reading.proofs.Turns.{none_is}
 use Rattle.reading.proofs.one.read_token.Goals.{Else-not-is_place, In_ok-hold}
@@ -39,6 +39,9 @@ returns-in_err-judge c = rw (refusal_is c.from_residual.ensures.1) (unfit (sym c
 
 pub returns-then-not-is_place : goal.returns-then-not-is_place
 returns-then-not-is_place c = no_place (sym c.in_ok-judge.ensures) (sym c.is_place.ensures ∙ c.if-not-is_place.true)
+
+pub returns-then-tokens-lt-RECORD_WIDTH : goal.returns-then-tokens-lt-RECORD_WIDTH
+returns-then-tokens-lt-RECORD_WIDTH c = no_record (sym c.in_ok-judge.ensures) (sym c.is_place.ensures ∙ c.if-not-is_place.false) (search rules)
 
 pub invariant_of-here : goal.invariant_of-here
 invariant_of-here c =

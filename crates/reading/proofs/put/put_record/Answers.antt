@@ -21,4 +21,4 @@ pub returns : goal.returns
 returns c =
     let at = goal.at.returns c in
     let f : SFits w64 c.args.t.nanos = search rules in
-    rw (c.store.ensures, c.numbers.ensures, c.number.ensures, c.number_of.ensures, value_is at.Joined-is_string, to_z-of_z w64 c.args.t.nanos f)
+    rw (c.store.ensures, c.numbers.ensures, c.kind_number.ensures, c.number_of.ensures, value_is at.Joined-is_string, to_z-of_z w64 c.args.t.nanos f)

@@ -6,5 +6,5 @@ use Rattle.token_file.specs.Format.{little}
 use Rattle.token_file.proofs.Numbers.{putting}
 use Rattle.token_file.proofs.number.put_little.Given as goal
 
-abbrev pub invariant-loop-i : goal.invariant-loop-i
-invariant-loop-i l = putting l.out (l.at + l.width) l.i l.rest ≡ sets l.initial.out l.at (little l.width l.n)
+abbrev pub invariant-loop-k : goal.invariant-loop-k
+invariant-loop-k l = putting l.out (l.at + l.width) (l.at + l.k) l.rest ≡ sets l.initial.out l.at (little l.width l.n)

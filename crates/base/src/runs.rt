@@ -11,10 +11,10 @@ pub const BLOCK: usize = 16;
 pub const WINDOW: usize = 64;
 
 // A window and the byte after it.
-const AHEAD: usize = 65;
+const AHEAD: usize = WINDOW + 1;
 
 // The index of no byte of a window, in a byte as the others.
-const NONE: u8 = 64;
+const NONE: u8 = WINDOW as u8;
 
 // The bytes of a run.
 pub trait Run: Copy {

@@ -124,9 +124,9 @@ module _ {m : Mode} {s : List ℕ} {i count reports : ℕ} {state : State} (u : 
     pub measuring_less : length s - (e + used) < length s - i
     measuring_less = step_less m s e is h part_in i (spells_ge part)
 
-    pub measuring_go : (bs : List ℕ) (t : State) (b : Bool) (k : ℕ) → bs ≡ octets_of enc → t ≡ push_all state bs → b ≡ is_some reason → k ≡ bool_byte b
+    pub measuring_go : (t : State) (b : Bool) (k : ℕ) → t ≡ push_all state (octets_of enc) → b ≡ is_some reason → k ≡ bool_byte b
         → Measuring m s (e + used) (count + size + enc.len) (reports + k) t
-    measuring_go bs t b k eb et es ek =
+    measuring_go t b k et es ek =
         let f : Taken enc.len used (length (drop e s)) = (went m s e is h).taken in
         record {
           inside = gives.inside;
@@ -136,7 +136,7 @@ module _ {m : Mode} {s : List ℕ} {i count reports : ℕ} {state : State} (u : 
               parted.is
               ∙ ap (measured (count + size) reports state) gives.is
               ∙ measured_prepend (count + size) reports state (octets_of enc) (step_notes reason (byte enc.bytes 1) e) (from m s (e + used))
-              ∙ rw (gives.count, notes_count reason (byte enc.bytes 1) e, et, eb, ek, es) refl;
+              ∙ rw (gives.count, notes_count reason (byte enc.bytes 1) e, et, ek, es) refl;
         }
 
     pub step_fits : length s < 2 ^ 64 → Fits w64 (count + size + enc.len)

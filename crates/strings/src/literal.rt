@@ -6,7 +6,8 @@ ghost use Rattle.base.specs.Choice.{pick};
 ghost use Rattle.base.specs.Bytes.{byte};
 ghost use Rattle.base.specs.Runs.{reach};
 ghost use Rattle.utf8.specs.Grammar.{valid_to};
-ghost use Rattle.utf8.specs.State.{is_between};
+ghost use Rattle.utf8.specs.State.{is_between, push_all};
+ghost use Rattle.utf8.specs.Character.{octets_of};
 ghost use Rattle.strings.specs.Piece.{piece_of};
 ghost use Rattle.strings.specs.Plain.{is_ordinary, in_ordinary, simple_at, simple_bytes, Spells};
 ghost use Rattle.strings.specs.Decode.{step_of};
@@ -183,6 +184,21 @@ pub fn put_simple(t: &[u8], out: &mut [u8]) -> usize
     pairs.len()
 }
 
+// The state of a check after the bytes of a piece. By a test for each of the four, as `Encoded::put`: for a slice of them the compiler loads at once what was
+// stored byte by byte, which has to wait.
+fn feed(state: State, encoded: Encoded) -> State
+    requires { encoded.len ≤ 4 }
+    ensures { result ≡ push_all state (octets_of encoded) }
+{
+    let mut state = state;
+    for k in 0..4 {
+        if k < encoded.len {
+            state = state.push(encoded.bytes[k]);
+        }
+    }
+    state
+}
+
 // A string literal at the front of a well-formed text, whose first byte is the opening quote.
 #[derive(Clone, Copy)]
 pub struct Literal<'a> {
@@ -248,7 +264,7 @@ impl<'a> Literal<'a> {
                     used,
                     reason,
                 } => {
-                    state = state.push_all(encoded.as_slice());
+                    state = feed(state, encoded);
                     count += encoded.len;
                     reports += usize::from(reason.is_some());
                     i = e + used;

@@ -56,7 +56,17 @@ fn put_tolerant_notes(text: &[u8], start: Place, out: &mut [i64], at: usize)
                 let Some(reason) = reason else {
                     continue;
                 };
-                place = walk(text, place, first + e + 1);
+                // Its numbers one by one: loaded together, they wait until `walk` has stored each.
+                let Place {
+                    offset,
+                    line,
+                    column,
+                } = walk(text, place, first + e + 1);
+                place = Place {
+                    offset,
+                    line,
+                    column,
+                };
                 let escape = BadEscape {
                     reason,
                     letter: encoded.bytes[1],

@@ -109,9 +109,9 @@ fn oct_byte(t: &[u8], first: u8) -> Option<u8>
     Some((first - b'0') * 64 + h * 8 + l)
 }
 
-// `\u` or `\U` and n digits, of which l is the text. Good digits before a bad one are used up, but none where too few bytes are left. Not inlined,
-// strings of such escapes take a fifth more instructions.
-#[inline]
+// `\u` or `\U` and n digits, of which l is the text. Good digits before a bad one are used up, but none where too few bytes are left. Inlined in any
+// case: its answer would go through memory, stored in pieces and loaded whole, and strings of such escapes took up to a third more time.
+#[inline(always)]
 fn code_escape(l: &[u8], n: usize, escape: BadEscape) -> Piece
     requires { n ≤ 8 }
     ensures { result ≡ code_piece n escape l.now }

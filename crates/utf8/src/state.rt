@@ -103,7 +103,7 @@ impl State {
         ensures { result ≡ push_all self bytes.now }
     {
         let mut state = self;
-        // A `for`: as a `fold` it takes seven instructions more at each bad escape of a string.
+        // A `for`: as a `fold` it took seven instructions more for two bytes.
         for b in bytes {
             state = state.push(*b);
         }

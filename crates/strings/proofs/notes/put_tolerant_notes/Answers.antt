@@ -22,8 +22,8 @@ overflow_add-first c = search to_fits
 pub overflow_add-first-in-Go : goal.overflow_add-first-in-Go
 overflow_add-first-in-Go c = search to_fits_2
 
-pub walk-place-requires : goal.walk-place-requires
-walk-place-requires c = search note_walks
+pub walk-offset-requires : goal.walk-offset-requires
+walk-offset-requires c = search note_walks
 
 pub put_report-requires : goal.put_report-requires
 put_report-requires c = search (note_room, note_report)

@@ -20,8 +20,8 @@ returns-then-peek-eq34 c = search measuring_quote
 pub step_at-st-requires : goal.step_at-st-requires
 step_at-st-requires c = search part_in
 
-pub as_slice-requires : goal.as_slice-requires
-as_slice-requires c = search step_four
+pub feed-state-requires : goal.feed-state-requires
+feed-state-requires c = search step_four
 
 pub overflow_add-count-in-Go : goal.overflow_add-count-in-Go
 overflow_add-count-in-Go c = search step_fits

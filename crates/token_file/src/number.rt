@@ -4,7 +4,8 @@ ghost use Rattle.std.proofs.lemmas.List.Edits.{sets};
 ghost use Rattle.token_file.specs.Format.{little, number_at};
 
 // Writes `n` as `width` bytes from `at` on: any width, where `to_le_bytes` has eight bytes. The cast is of a number below 256. By an index: an iterator over
-// `out[at..at + width]` would name the same range, and borrow it. It counts from 0: from `at` on, the compiler would not join the stores of a number.
+// `out[at..at + width]` would name the same range, and borrow it. It counts from 0, so that the compiler lays the stores out without a test
+// for each: from `at` on it does not.
 pub fn put_little(out: &mut [u8], at: usize, width: usize, n: usize)
     requires { at + width ≤ length out.old }
     ensures { out.new ≡ sets out.old at (little width n) }

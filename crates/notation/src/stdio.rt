@@ -52,10 +52,9 @@ pub fn print_hex(b: u8) {
     io::print_hex(STDOUT_FILENO, u64::from(b), 2);
 }
 
-// Prints a line: a word, and numbers with a blank before each.
-pub fn print_row<I: Integer>(word: &[u8], row: &[I]) {
-    print(word);
-    for n in row {
+// Prints the rest of a line: numbers with a blank before each.
+pub fn print_numbers<I: Integer>(numbers: &[I]) {
+    for n in numbers {
         print(b" ");
         print_number(*n);
     }

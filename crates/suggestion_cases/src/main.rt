@@ -5,7 +5,7 @@
 
 use base::answer::{number, value};
 use notation::parse;
-use notation::stdio::{print_answer, print_row, read};
+use notation::stdio::{print_answer, print_numbers, read};
 
 fn one_case(line: &[u8]) {
     let (room, run) = parse::split_word(line);
@@ -15,7 +15,7 @@ fn one_case(line: &[u8]) {
     let list = &mut numbers[..parse::digits(room).min(2400)];
     let r = suggest::call::suggest_durations(run, list);
     print_answer(number(r), value(r));
-    print_row(b"", list);
+    print_numbers(list);
 }
 
 fn main() {

@@ -6,7 +6,7 @@
 
 use base::answer::{number, value};
 use notation::parse;
-use notation::stdio::{print, print_answer, print_hex, print_row, read};
+use notation::stdio::{print, print_answer, print_hex, print_numbers, read};
 
 fn print_bytes(s: &[u8]) {
     print(b" ");
@@ -38,7 +38,7 @@ fn read_case(line: &[u8]) {
     let tokens = &mut numbers[..parse::digits(room).min(256)];
     let r = token_file::read::read_token_file(file, tokens);
     print_answer(number(r), value(r));
-    print_row(b"", tokens);
+    print_numbers(tokens);
 }
 
 fn main() {

@@ -18,7 +18,8 @@ use token::layout::{RECORD_WIDTH, REPORT_WIDTH, Record};
 use token::place::Place;
 use token::reason::number_of;
 
-// The number of a token's kind.
+// The number of a token's kind. A function of its own, so that its contract says that the kind alone decides it, wherever the token stands (must-fail
+// `first_token_then_illegal`).
 #[inline(always)]
 fn kind_number(t: Token) -> usize
     ensures { result ≡ kind_number t.kind }

@@ -1,5 +1,4 @@
 -- `strip` is `strip`: what is left of the indent and of the line decides. Assumes nothing.
-
 use Rattle.triple_strings.proofs.Stripping.{Comparing}
 use Rattle.triple_strings.proofs.lines.strip.Given as goal
 

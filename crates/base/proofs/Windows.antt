@@ -47,10 +47,11 @@ module _ (p : ℕ → ℕ → Bool) (s : List ℕ) (n : ℕ) where
           let z : (j < w → ⊥) = λ q. true_false (p (byte s j) (byte s (j + 1))) (run_all p s j q) f in
           rw (same w (ltb-false w j e) z, lt-ltb j (j + 1) (omega arith)) (omega arith)
 
-  pub searched_end : (j m : ℕ) → n ≤ j → j ≤ n → Searched j m → m ≡ min (run p s) n
+  -- at the end of the n bytes, or after it where the run ends within them
+  pub searched_end : (j m : ℕ) → n ≤ j → (run p s < j → run p s ≤ n) → Searched j m → m ≡ min (run p s) n
   searched_end j m h k u =
-      let q : j ≡ n = omega arith in
-      (rw q at u) ∙ by_cases (ltb (run p s) n) (λ e. rw e (omega (arith, ltb-true (run p s) n e))) (λ e. rw e (omega (arith, ltb-false (run p s) n e)))
+      let w : ℕ = run p s in
+      u ∙ by_cases (ltb w j) (λ e. rw e (omega (arith, k (ltb-true w j e)))) (λ e. rw e (omega (arith, ltb-false w j e)))
 
 -- the bytes of a window, the first `window_run` of them, stay in the run
 module _ (p : ℕ → ℕ → Bool) (s : List ℕ) (i : ℕ) (l : 64 < length s - i) where

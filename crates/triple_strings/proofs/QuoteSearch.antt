@@ -81,7 +81,7 @@ until_short : (t : List ℕ) → length t ≤ 2 → until_quotes t ≡ length t
 until_short [] h = let l = until_le [] in omega arith
 until_short (x ∷ t) h = until_cons x t (quotes_short (x ∷ t) (omega arith)) ∙ ap suc (until_short t (omega arith))
 
-turned : (a b : ℕ) → eqb a b ≡ eqb b a
+pub turned : (a b : ℕ) → eqb a b ≡ eqb b a
 turned a b = by_cases (eqb b a) (λ e. rw e (eq-eqb a b (sym (eqb-true b a e)))) (λ e. rw e (ne_eqb a b (λ q. true_false (eqb b a) (eq-eqb b a (sym q)) e)))
 
 -- the library's test of the front of a slice

@@ -1,7 +1,7 @@
 -- For the dedent: the text without the indent, byte by byte as the code goes, is the text that the definition makes of its lines. By induction on the
 -- text and on its lines. Assumes nothing.
 use mathlib.Core.Path.{◌≡◌, refl, ap, sym, ◌∙◌}
-use mathlib.Core.Bool.{Bool, true, false, ◌&&◌}
+use mathlib.Core.Bool.{Bool, true, false, ◌&&◌, cond}
 use mathlib.Core.List.{List, [], ◌∷◌, ◌++◌, map}
 use mathlib.Core.Logic.{⊎_elim}
 use Prim.Native.Nat.{ℕ, suc, ◌+◌, ◌-◌, ◌≤◌, ◌<◌}
@@ -10,7 +10,9 @@ use native.Mathlib.Omega.{arith}
 use borrow.Author.Tests.{eqb-true, eq-eqb, ne_eqb}
 use lib.Dec.{eqb}
 use lib.ListN.{length, drop, drop_of_length-le, take, length-append, length-drop}
+use Rattle.std.specs.List.{slice_split, onto_first}
 use Rattle.std.proofs.lemmas.List.Elements.{All-head, All-tail}
+use Rattle.std.proofs.lemmas.List.Splits.{slice_split_none}
 use Rattle.base.specs.Choice.{pick}
 use lib.Seq.{drop-cons}
 use Rattle.base.specs.Bytes.{byte}
@@ -25,12 +27,17 @@ newline b = eqb b 0x0A
 
 -- ---- the lines
 
-lines_one : (s : List ℕ) → OneLine s → lines s ≡ s ∷ []
+pub lines_split : (s : List ℕ) → lines s ≡ slice_split newline s
 unfolding lines first others
-lines_one [] h = refl
-lines_one (x ∷ s) h =
-    let e = lines_one s (All-tail (λ b. newline b ≡ false) x s h) in
-    rw (All-head (λ b. newline b ≡ false) x s h) cc
+lines_split [] = refl
+lines_split (x ∷ s) = rw (← lines_split s) (go (eqb x 0x0A))
+  where
+    go : (b : Bool) → pick b [] (x ∷ first s) ∷ (pick b (first s ∷ []) [] ++ others s) ≡ cond b ([] ∷ lines s) (onto_first x (lines s))
+    go true = refl
+    go false = refl
+
+lines_one : (s : List ℕ) → OneLine s → lines s ≡ s ∷ []
+lines_one s h = lines_split s ∙ slice_split_none newline s h
 
 -- ---- a line without the indent
 

@@ -1,5 +1,6 @@
 -- `window_count` meets its contract: what the search has found before each byte. Assumes nothing.
 use mathlib.Core.Path.{◌≡◌}
+use native.Mathlib.Omega.{arith}
 use borrow.Author.Rules.{rules}
 use Rattle.base.specs.Choice.{pick}
 use Rattle.base.specs.Blocks.{window_run}
@@ -22,4 +23,4 @@ loop-j-preserved g c =
 
 pub returns : goal.returns
 unfolding window_run
-returns g c = let l = c.loop-j in rw c.from.ensures (searched_end (g.R.Run.has _) _ 64 l.j l.m c.loop-j-test.false l.auto.j-end l.invariant)
+returns g c = let l = c.loop-j in rw c.from.ensures (searched_end (g.R.Run.has _) _ 64 l.j l.m c.loop-j-test.false (λ q. omega (arith, l.auto.j-end)) l.invariant)
